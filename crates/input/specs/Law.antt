@@ -25,9 +25,11 @@ abbrev pub Stops : (ℕ → Bool) → Bytes → Type 0
 Stops test [] = Unit {0}
 Stops test (b ∷ bs) = test b ≡ false
 
+-- all bytes pass the test, and the run does not go on behind them
 abbrev pub Run : (ℕ → Bool) → Bytes → Bytes → Type 0
 Run test part rest = All (λ b. test b ≡ true) part × Stops test rest
 
+-- the list of signs has these bytes, and so a type for them
 abbrev pub Is-sign : Bytes → Type 0
 Is-sign part = 0 < type-in signs part 0
 
@@ -35,10 +37,11 @@ Is-sign part = 0 < type-in signs part 0
 abbrev pub No-longer-sign : ℕ → Bytes → Type 0
 No-longer-sign n text = (part rest : Bytes) → Is-sign part → part ++ rest ≡ text → length part ≤ n
 
--- every `*)` in the bytes begins behind the first n or right there
+-- every `*)` in the bytes has n bytes or more before it
 abbrev pub First-closing : ℕ → Bytes → Type 0
 First-closing n bytes = (front rest : Bytes) → front ++ (codes "*)" ++ rest) ≡ bytes → n ≤ length front
 
+-- there is no `*)` in the bytes
 abbrev pub No-closing : Bytes → Type 0
 No-closing bytes = (front rest : Bytes) → front ++ (codes "*)" ++ rest) ≡ bytes → ⊥
 
@@ -58,11 +61,13 @@ pub record Lone (part rest : Bytes) : Type 0 where
   pub no-blank : is-blank byte ≡ false
   pub no-sign : No-longer-sign 0 (part ++ rest)
 
+-- `(*`, what is inside, and the first `*)` behind the `(*`
 pub record Commented (part rest : Bytes) : Type 0 where
   pub inside : Bytes
   pub opens : part ≡ codes "(*" ++ (inside ++ codes "*)")
   pub first : First-closing (length inside) (inside ++ (codes "*)" ++ rest))
 
+-- what the bytes of each kind are, given what stands behind them; a sign is no `(` before a `*`
 abbrev pub Reads : Kind → Bytes → Bytes → Type 0
 Reads name part rest = Begins begins-name part × Run is-in-name part rest
 Reads number part rest = Run is-digit part rest
@@ -73,6 +78,7 @@ Reads unknown part rest = Unclosed part rest ⊎ Lone part rest
 
 -- ── the tokens of a text ──
 
+-- the part of the text that a token has, and what stands behind it
 abbrev pub bytes-at : Bytes → Token → Bytes
 bytes-at text t = take (t .len) (drop (t .offset) text)
 
@@ -96,6 +102,8 @@ abbrev pub Counted : ℕ → List Token → Type 0
 Counted index [] = Unit {0}
 Counted index (t ∷ ts) = (t .index ≡ pos index) × Counted (suc index) ts
 
+-- the law: joined, the tokens' parts are the whole text; none is empty, and none reaches beyond the text; each begins where the one before it
+-- ends; the indices count up from 0; each obeys its rule
 pub record Scans (text : Bytes) (ts : List Token) : Type 0 where
   pub whole : joined (bytes-at text) ts ≡ text
   pub some : All (λ t. 0 < t .len) ts
