@@ -5,6 +5,7 @@ use Prim.Native.Nat.{ℕ}
 use lib.Dec.{eqb}
 use Rattle.std.specs.Text.{asciiDigit, asciiLetter, upper}
 
+-- a text, or a part of one: each byte as a number below 256
 abbrev pub Bytes : Type 0
 Bytes = List ℕ
 
@@ -28,11 +29,13 @@ is-blank b = eqb b 32 || eqb b 9 || eqb b 10 || eqb b 13
 abbrev pub capitals : Bytes → Bytes
 capitals = map upper
 
+-- whether a text begins with these bytes
 abbrev pub starts-with : Bytes → Bytes → Bool
 starts-with [] text = true
 starts-with (w ∷ ws) [] = false
 starts-with (w ∷ ws) (b ∷ bs) = eqb w b && starts-with ws bs
 
+-- whether two texts are equal
 abbrev pub same-bytes : Bytes → Bytes → Bool
 same-bytes [] [] = true
 same-bytes [] (b ∷ bs) = false

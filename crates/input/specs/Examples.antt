@@ -9,12 +9,14 @@ use Rattle.input.specs.Bytes.{Bytes}
 use Rattle.input.specs.Scanned.{scanned, scanner}
 use Rattle.input.specs.Filter.{filtered}
 
+-- the types of some tokens, and their lengths
 abbrev pub types : List Token → List ℤ
 types ts = map (λ t. t .ttype) ts
 
 abbrev pub lengths : List Token → List ℕ
 lengths ts = map (λ t. t .len) ts
 
+-- what the rules give for each text, by computation
 pub record Examples : Type 0 where
   pub power : types (scanned (codes "a**b")) ≡ pos 1 ∷ pos 11 ∷ pos 1 ∷ []
   pub unclosed : types (scanned (codes "(*x")) ≡ pos 0 ∷ []

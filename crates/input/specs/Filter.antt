@@ -9,6 +9,7 @@ use Rattle.input.specs.declared.channel_filter.ChannelFilter.{ChannelFilter}
 use Rattle.input.specs.Streams.{Stream, Supply}
 use Rattle.input.specs.Lookahead.{stream}
 
+-- the tokens on channel 0, in their order
 abbrev pub on-channel-0 : List Token → List Token
 on-channel-0 [] = []
 on-channel-0 (t ∷ ts) = cond (eqb (t .channel) 0) (t ∷ on-channel-0 ts) (on-channel-0 ts)

@@ -42,9 +42,11 @@ every-visible (t ∷ ts) e = go (eqb (t .channel) 0) (every-visible ts (e .1))
     go true r = (e .0, r)
     go false r = r
 
+-- what a filter finds in a well-formed stream is formed
 pub visible-formed : (s : Stream) → Well-formed s → Supply-formed (visible s)
 visible-formed s f = record { inputs = every-visible (s .ahead) (f .inputs); ends = f .ends }
 
+-- and so is the filter over it
 pub filter-formed : {S : Type 0} (meaning : S → Stream) → ((s : S) → Well-formed (meaning s)) → (f : ChannelFilter S) → Well-formed (filter-stream meaning f)
 filter-formed {S} meaning formed f =
     let source = f .tokens .source .stream in

@@ -19,6 +19,7 @@ signs =
     ∷ (codes "**", 11) ∷ (codes "=", 12) ∷ (codes "<>", 13) ∷ (codes "<", 14) ∷ (codes "<=", 15) ∷ (codes ">", 16) ∷ (codes ">=", 17)
     ∷ (codes "&", 18) ∷ (codes ",", 19) ∷ []
 
+-- the words, in capitals; a name counts as one in either case
 abbrev pub words : List (Bytes × ℕ)
 words = (codes "AND", 20) ∷ (codes "OR", 21) ∷ (codes "XOR", 22) ∷ (codes "NOT", 23) ∷ (codes "MOD", 24) ∷ []
 
@@ -32,6 +33,7 @@ abbrev pub longest-in : List (Bytes × ℕ) → Bytes → ℕ
 longest-in [] text = 0
 longest-in ((sign, k) ∷ more) text = max (cond (starts-with sign text) (length sign) 0) (longest-in more text)
 
+-- a place counted from one byte further left
 abbrev pub one-more : Option ℕ → Option ℕ
 one-more None = None
 one-more (Some n) = Some (suc n)
@@ -51,6 +53,7 @@ pub record Front : Type 0 where
   pub kind : Kind
   pub len : ℕ
 
+-- a front of this kind and length
 abbrev pub front-is : Kind → ℕ → Front
 front-is k n = record { kind = k; len = n }
 
@@ -84,6 +87,7 @@ type-of blank part = 25
 type-of comment part = 26
 type-of unknown part = 0
 
+-- blanks and comments are hidden from a parser
 abbrev pub channel-of : Kind → ℕ
 channel-of name = 0
 channel-of number = 0
@@ -98,9 +102,11 @@ pub record Part : Type 0 where
   pub kind : Kind
   pub bytes : Bytes
 
+-- the front cut off a text
 abbrev pub cut : Front → Bytes → Part
 cut f text = record { kind = f .kind; bytes = take (f .len) text }
 
+-- none where the text is empty
 abbrev pub first-part : Bytes → Option Part
 first-part [] = None
 first-part (b ∷ bs) = Some (cut (front-of b bs) (b ∷ bs))

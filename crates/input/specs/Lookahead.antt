@@ -8,5 +8,6 @@ use Rattle.input.specs.Held.{held-tokens, held-end}
 abbrev pub opened : Supply → Stream
 opened s = record { previous = None; ahead = s .tokens; end = s .end }
 
+-- what is previous, what is held, and what the source has still to give
 abbrev pub stream : {S : Type 0} → (S → Supply) → Lookahead S → Stream
 stream supply s = record { previous = s .previous; ahead = held-tokens (s .held) (supply (s .source)); end = held-end (s .held) (supply (s .source)) }

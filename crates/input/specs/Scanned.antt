@@ -27,6 +27,7 @@ scanned-within (suc more) index offset (b ∷ bs) =
 abbrev pub scanned-from : ℕ → ℕ → Bytes → List Token
 scanned-from index offset text = scanned-within (length text) index offset text
 
+-- all tokens of a text
 abbrev pub scanned : Bytes → List Token
 scanned text = scanned-from 0 0 text
 

@@ -51,8 +51,10 @@ inputs (suc more) index offset (b ∷ bs) =
     let front = front-of b bs in
     (and-from _ _ (type-small (front .kind) (take (front .len) (b ∷ bs))) refl, inputs more (suc index) (offset + front .len) (drop (front .len) (b ∷ bs)))
 
+-- what is still to be scanned is formed
 pub still-formed : (c : Cursor) → Supply-formed (still-to-scan c)
 still-formed c = record { inputs = inputs (length (c .rest .now)) (c .index) (c .offset) (c .rest .now); ends = refl }
 
+-- and so the scanner is a well-formed stream
 pub scanner-formed : (s : Scanner) → Well-formed (scanner-stream s)
 scanner-formed s = stream-formed still-to-scan (s .tokens) (still-formed (s .tokens .source))

@@ -8,6 +8,7 @@ use Rattle.input.specs.declared.text.Text.{Text}
 use Rattle.input.specs.declared.text.TextTooLong.{TextTooLong}
 use Rattle.input.specs.Bytes.{Bytes}
 
+-- what a text of the code holds
 abbrev pub bytes-of : Text → Bytes
 bytes-of t = take 65536 (t .bytes .now)
 

@@ -6,6 +6,7 @@ use lib.Dec.{leb}
 use lib.Signed.{nonNeg}
 use Rattle.input.specs.declared.token.Token.{Token}
 
+-- whether a number is −1
 abbrev pub minus-one : ℤ → Bool
 minus-one (pos n) = false
 minus-one (negsuc zero) = true

@@ -22,5 +22,6 @@ answer (Err bad) = line-of (bad-line bad)
 abbrev pub no-memory : ℕ → Bytes
 no-memory number = line-of (bad-line (record { number = number; fault = Memory }))
 
+-- what is printed is the answer, or that there was no memory: any allocation may fail, so nothing here says when that is so
 abbrev pub Answers : Bytes → Bytes → Type 0
 Answers input out = (out ≡ answer (recorded input)) ⊎ ((number : ℕ) × (out ≡ no-memory number))

@@ -10,6 +10,7 @@ use Rattle.std.specs.declared.option.Option.{Option}
 use Rattle.std.specs.declared.option.Option.the-variants.{Some, None}
 use Rattle.std.specs.shelf.Lists.{joined}
 
+-- each byte as a number below 256
 abbrev pub Bytes : Type 0
 Bytes = List ℕ
 
@@ -51,5 +52,6 @@ Reads-first text (Some (b, rest)) = (unescaped text ≡ in-front (Some b) (unesc
 abbrev pub escaped-byte : ℕ → Bytes
 escaped-byte b = cond (eqb b 9) (92 ∷ 116 ∷ []) (cond (eqb b 10) (92 ∷ 110 ∷ []) (cond (eqb b 13) (92 ∷ 114 ∷ []) (b ∷ [])))
 
+-- each byte so, joined
 abbrev pub escaped : Bytes → Bytes
 escaped = joined escaped-byte

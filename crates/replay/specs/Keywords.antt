@@ -9,6 +9,7 @@ use Rattle.replay.specs.declared.keyword.Keyword.{Keyword}
 use Rattle.replay.specs.declared.keyword.Keyword.the-variants.{Text, Rules, Strategy, Recovering, Listener, Room, Enter, Recursion, State, Alternative, Extend, GiveUp, Match, Any, Consume, Leave, Unroll, Passes, Child, Parent, Nth, Leaf, TextOf, Print, Walk}
 use Rattle.replay.specs.Bytes.{Bytes}
 
+-- the word that each keyword is
 abbrev pub name-of : Keyword → Bytes
 name-of Text = codes "text"
 name-of Rules = codes "rules"
@@ -36,6 +37,7 @@ name-of TextOf = codes "text-of"
 name-of Print = codes "print"
 name-of Walk = codes "walk"
 
+-- all of them: head lines, calls, questions
 abbrev pub keywords : List Keyword
 keywords =
     Text ∷ Rules ∷ Strategy ∷ Recovering ∷ Listener ∷ Room

@@ -22,6 +22,7 @@ use Rattle.replay.specs.Keywords.{name-of, keyword}
 abbrev pub is-space : ℕ → Bool
 is-space b = eqb b 32 || eqb b 9
 
+-- nothing but spaces and tabs
 abbrev pub is-blank : Bytes → Bool
 is-blank [] = true
 is-blank (b ∷ bs) = is-space b && is-blank bs
@@ -46,6 +47,7 @@ by-keyword (Some k) rest =
     cond (sameBytes (name-of k) (codes "text")) (some-text (valueOr rest []))
     (cond (sameBytes (name-of k) (codes "rules")) (some-rules rest) (not-yet k))
 
+-- what a line says: nothing if it is blank or a comment, else by its first word
 abbrev pub says : Bytes → Saying
 says line = cond (is-blank line || is-comment line) nothing (by-keyword (keyword (up-to 32 line)) (behind 32 line))
 

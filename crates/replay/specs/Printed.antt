@@ -31,6 +31,7 @@ numbers-of t =
     signed (t .index) ++ (codes " " ++ (signed (t .ttype) ++ (codes " " ++ (decimal (t .channel) ++ (codes " " ++ (decimal (t .offset) ++ (codes " " ++ (decimal (t .len)
     ++ codes " '"))))))))
 
+-- the numbers, then the bytes between quotes
 abbrev pub token-line : Token → Bytes → Bytes
 token-line t part = numbers-of t ++ (escaped part ++ line-of (codes "'"))
 
@@ -38,6 +39,7 @@ token-line t part = numbers-of t ++ (escaped part ++ line-of (codes "'"))
 abbrev pub part-of : Bytes → Token → Bytes
 part-of text t = take (t .len) (drop (t .offset) text)
 
+-- a line for each token
 abbrev pub token-lines : Bytes → List Token → Bytes
 token-lines text = joined (λ t. token-line t (part-of text t))
 
@@ -52,12 +54,15 @@ is-zero (negsuc n) = false
 abbrev pub is-visible : Token → Bool
 is-visible t = eqb (t .channel) 0
 
+-- on another channel
 abbrev pub is-hidden : Token → Bool
 is-hidden t = not (is-visible t)
 
+-- of type 0
 abbrev pub is-unknown : Token → Bool
 is-unknown t = is-zero (t .ttype)
 
+-- how many of each sort
 abbrev pub tally-of : List Token → Tally
 tally-of ts = record { visible = countBy is-visible ts; hidden = countBy is-hidden ts; unknown = countBy is-unknown ts }
 
@@ -71,6 +76,7 @@ pub record Few (n : Tally) : Type 0 where
   pub hidden : n .hidden ≤ 65536
   pub unknown : n .unknown ≤ 65536
 
+-- in words
 abbrev pub tally-line : Tally → Bytes
 tally-line t =
     decimal (t .visible + t .hidden) ++ (codes " tokens, " ++ (decimal (t .visible) ++ (codes " on channel 0, " ++ (decimal (t .hidden) ++ (codes " on channel 1, "
@@ -87,6 +93,7 @@ pub record Listed (text before after : Bytes) (tally : Tally) : Type 0 where
   pub counts : tally ≡ tally-of (scanned text)
   pub few : Few tally
 
+-- the heading, a line for each token and for the end, and the last line
 abbrev pub tokens-printed : Bytes → Bytes
 tokens-printed text =
     line-of (codes "tokens") ++ ((token-lines text (scanned text) ++ token-line (end-of text) []) ++ line-of (tally-line (tally-of (scanned text))))

@@ -43,10 +43,12 @@ none-empty [] = true
 none-empty ([] ∷ more) = false
 none-empty ((b ∷ bs) ∷ more) = none-empty more
 
+-- no names at all where nothing stands behind the keyword
 abbrev pub words-if-any : Option Bytes → List Bytes
 words-if-any None = []
 words-if-any (Some bytes) = words bytes
 
+-- refused where two spaces, or one at an end, leave an empty name
 abbrev pub names : Option Bytes → Result (List Bytes) Fault
 names bytes = cond (none-empty (words-if-any bytes)) (Ok (words-if-any bytes)) (Err EmptyName)
 
@@ -62,14 +64,17 @@ abbrev pub continued : Option Bytes → Bytes → Bytes
 continued None line = line
 continued (Some text) line = text ++ (10 ∷ line)
 
+-- one more text line; none stands for an unknown escape
 abbrev pub with-text : Said → Option Bytes → Result Said Fault
 with-text s None = Err UnknownEscape
 with-text s (Some line) = Ok (record { text = Some (continued (s .text) line); rules = s .rules })
 
+-- the names of a rules line replace earlier ones
 abbrev pub with-rules : Said → Result (List Bytes) Fault → Result Said Fault
 with-rules s (Ok names) = Ok (record { text = s .text; rules = names })
 with-rules s (Err fault) = Err fault
 
+-- what is said after one more line, or what is wrong with it
 abbrev pub with-line : Said → Saying → Result Said Fault
 with-line s nothing = Ok s
 with-line s (some-text bytes) = with-text s (unescaped bytes)
@@ -87,6 +92,7 @@ abbrev pub with-lines : ℕ → Said → List Bytes → Result Said BadLine
 with-lines number s [] = Ok s
 with-lines number s (line ∷ more) = go-on number (with-line s (says line)) (λ t. with-lines (number + 1) t more)
 
+-- before the first line
 abbrev pub nothing-said : Said
 nothing-said = record { text = None; rules = [] }
 
@@ -99,6 +105,7 @@ recorded input = with-lines 1 nothing-said (lines input)
 abbrev pub bytes-in : List (RefT Bytes) → List Bytes
 bytes-in = map (λ r. r .now)
 
+-- what the code has read so far
 abbrev pub said-by : Head → Said
 said-by h = record { text = mapped vec-items (h .text); rules = bytes-in (vec-items (h .rules)) }
 
