@@ -1,11 +1,11 @@
 -- What stands at the front of a text, case by case.
-use Rattle.std.proofs.Common.{◌≡◌, ℕ, zero, suc, ◌+◌, ◌-◌, ◌<◌, ◌≤◌, Bool, true, false, cond, ◌&&◌, eqb, List, [], ◌∷◌, length, get_or, take, drop, IfSome, Some, None, codes, Option, sym, refl, ap, ◌∙◌, subst, subst₂, arith}
+use Rattle.std.proofs.Common.{◌≡◌, ℕ, zero, suc, ◌+◌, ◌-◌, ◌≤◌, Bool, true, false, cond, ◌&&◌, eqb, List, [], ◌∷◌, length, get_or, take, drop, IfSome, Some, None, codes, Option, sym, refl, ap, ◌∙◌, subst, subst₂, arith}
 use Rattle.std.proofs.lemmas.List.{take_rest, length-drop}
 use Rattle.std.proofs.lemmas.List.Sums.{prefix_len-le-length}
 use Rattle.std.proofs.lemmas.Bool.{cond-false, cond_both, and_parts, or_left, false≢true}
 use Rattle.std.specs.List.{prefix_len}
 use Rattle.input.specs.Bytes.{Bytes, begins_name, is_in_name, is_digit, is_blank, starts_with}
-use Rattle.input.specs.Lexemes.{Front, Part, comment, unknown, one_more, closing, comment_or_rest, sign_or_byte, longest_in, signs, front_of, cut, first_part, comment_part}
+use Rattle.input.specs.Lexemes.{Front, Part, one_more, closing, comment_or_rest, sign_or_byte, longest_in, signs, front_of, cut, first_part, comment_part}
 
 closed : (bs : Bytes) (o : Option ℕ) → o ≡ closing bs
     → Some (cut (comment_or_rest o (suc (suc (length bs)))) (40 ∷ (42 ∷ bs))) ≡ comment_part (40 ∷ (42 ∷ bs))

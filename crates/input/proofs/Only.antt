@@ -1,14 +1,14 @@
 -- A text has no other tokens that obey the law.
-use Rattle.std.proofs.Common.{◌≡◌, ℕ, zero, suc, ◌+◌, ◌<◌, ◌≤◌, Bool, true, false, cond, not, ◌&&◌, ◌||◌, ◌⊎◌, List, [], ◌∷◌, ◌++◌, length, take, drop, pos, Some, None, codes, Option, sym, refl, ap, ◌∙◌, subst, subst₂, inl, inr, ⊎_elim, append_assoc, append-nil, le_antisymm, add-one, one-add, arith, lit<, take-append-drop}
+use Rattle.std.proofs.Common.{◌≡◌, ℕ, zero, suc, ◌+◌, ◌<◌, ◌≤◌, Bool, true, false, cond, not, ◌&&◌, List, [], ◌∷◌, ◌++◌, length, take, drop, pos, Some, None, codes, Option, sym, refl, ap, ◌∙◌, subst, subst₂, inl, inr, append_assoc, append-nil, le_antisymm, add-one, one-add, arith, lit<, take-append-drop}
 use Rattle.std.proofs.lemmas.List.{append_cancel_left, take_at, length-append, length-take-le, length-drop, drop-drop}
-use Rattle.std.proofs.lemmas.Bool.{cond-true, cond-false, and_parts, not-true, or_left, false≢true, both_ways, cases_lt}
+use Rattle.std.proofs.lemmas.Bool.{cond-true, cond-false, and_parts, not-true}
 use Rattle.std.proofs.lemmas.Bool.Decides.{nat_tests}
-use Rattle.std.specs.List.{flat_map, prefix_len, AllByRecursion as All}
+use Rattle.std.specs.List.{flat_map, prefix_len}
 use Rattle.input.specs.declared.token.Token.{Token}
 use Rattle.input.specs.Bytes.{Bytes, begins_name, is_in_name, is_digit, is_blank, starts_with, same_bytes}
 use Rattle.input.specs.Lexemes.{Kind, Front, Part, name, number, sign, blank, comment, unknown, front_is, signs, type_in, longest_in, closing, comment_or_rest, sign_or_byte, front_of, cut, first_part, type_of, channel_of}
 use Rattle.input.specs.Scanned.{token_of, scanned_from, scanned}
-use Rattle.input.specs.Law.{Begins, Stops, Run, IsSign, NoLongerSign, FirstClosing, NoClosing, Unclosed, Lone, Commented, Reads, bytes_at, behind, Scans}
+use Rattle.input.specs.Law.{Run, IsSign, NoLongerSign, FirstClosing, NoClosing, Reads, bytes_at, behind, Scans}
 use Rattle.input.proofs.Front.{longest_within}
 use Rattle.input.proofs.Lawful.{ScansFrom}
 use Rattle.input.proofs.Scanning.{reads_one}

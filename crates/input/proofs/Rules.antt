@@ -1,12 +1,12 @@
 -- What stands at the front of a text obeys its rule.
-use Rattle.std.proofs.Common.{◌≡◌, ℕ, zero, suc, ◌+◌, ◌<◌, ◌≤◌, max, Bool, true, false, cond, ◌&&◌, eqb, ltb, ◌⊎◌, List, [], ◌∷◌, ◌++◌, length, take, drop, Some, None, codes, Option, sym, refl, ap, ◌∙◌, subst, inl, inr, ⊎_elim, append_assoc, one-add, arith, take-append-drop}
+use Rattle.std.proofs.Common.{◌≡◌, ℕ, zero, suc, ◌+◌, ◌<◌, ◌≤◌, max, Bool, true, false, cond, ◌&&◌, eqb, ltb, List, [], ◌∷◌, ◌++◌, length, take, drop, Some, None, codes, Option, sym, refl, ap, ◌∙◌, subst, inl, inr, ⊎_elim, append_assoc, one-add, arith, take-append-drop}
 use Rattle.std.proofs.lemmas.List.{take_all, take_at, drop_all, length-take-le}
 use Rattle.std.proofs.lemmas.Bool.{cond_both, and_parts, and_from, eqb-true, eq-eqb, false≢true, both_ways, cases_lt, ltb-true, or_left}
 use Rattle.std.specs.List.{prefix_len, AllByRecursion as All}
 use Rattle.input.specs.Bytes.{Bytes, begins_name, is_in_name, is_digit, is_blank, starts_with, same_bytes}
-use Rattle.input.specs.Lexemes.{Kind, Front, name, number, sign, blank, comment, unknown, front_is, signs, type_in, longest_in, one_more, closing, comment_or_rest, sign_or_byte, front_of}
+use Rattle.input.specs.Lexemes.{Front, sign, signs, type_in, longest_in, one_more, closing, comment_or_rest, sign_or_byte, front_of}
 use Rattle.input.proofs.Front.{longest_within, leading_some}
-use Rattle.input.specs.Law.{Begins, Stops, Run, IsSign, NoLongerSign, FirstClosing, NoClosing, Unclosed, Lone, Commented, Reads}
+use Rattle.input.specs.Law.{Begins, Run, IsSign, FirstClosing, NoClosing, Reads}
 
 -- ── runs ──
 

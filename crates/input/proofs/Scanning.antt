@@ -1,10 +1,10 @@
 -- The tokens of a text, one by one.
-use Rattle.std.proofs.Common.{◌≡◌, ℕ, zero, suc, ◌+◌, ◌<◌, ◌≤◌, List, [], ◌∷◌, length, take, drop, Some, None, Option, sym, refl, ap, ◌∙◌, subst, add-one, arith}
+use Rattle.std.proofs.Common.{◌≡◌, ℕ, zero, suc, ◌+◌, ◌≤◌, List, [], ◌∷◌, length, take, drop, Some, None, sym, refl, ap, ◌∙◌, subst, add-one, arith}
 use Rattle.std.proofs.lemmas.List.{length-drop, length-take-le}
 use Rattle.input.specs.declared.token.Token.{Token}
 use Rattle.input.specs.Bytes.{Bytes}
 use Rattle.input.specs.Streams.{first_of, rest_of}
-use Rattle.input.specs.Lexemes.{Kind, Part, front_of, cut, first_part}
+use Rattle.input.specs.Lexemes.{Part, front_of, cut, first_part}
 use Rattle.input.specs.Scanned.{token_of, scanned_within, scanned_from, end_at}
 use Rattle.input.proofs.Front.{front_within}
 

@@ -1,5 +1,5 @@
 -- Which names are words: those of two or three bytes alone can be.
-use Rattle.std.proofs.Common.{◌≡◌, ℕ, zero, suc, Bool, true, false, cond, ◌&&◌, eqb, List, [], ◌∷◌, length, get_or, sym, refl, ap, ◌∙◌, arith}
+use Rattle.std.proofs.Common.{◌≡◌, ℕ, suc, Bool, true, false, ◌&&◌, eqb, [], ◌∷◌, length, get_or, sym, refl, ap, arith}
 use Rattle.std.specs.Char.{to_ascii_uppercase}
 use Rattle.input.specs.Bytes.{Bytes, capitals, same_bytes}
 use Rattle.input.specs.Lexemes.{words, type_in}

@@ -1,7 +1,6 @@
 -- Token lists of some short texts, as the rules compute them.
 use Rattle.std.specs.Prelude.{◌≡◌, ℕ, List, [], ◌∷◌, map, ℤ, pos, codes}
 use Rattle.input.specs.declared.token.Token.{Token}
-use Rattle.input.specs.Bytes.{Bytes}
 use Rattle.input.specs.Scanned.{scanned, scanner}
 use Rattle.input.specs.Filter.{filtered}
 

@@ -1,5 +1,5 @@
 -- Each stream's meaning is well formed: the proofs that its implementation hands over with the meaning.
-use Rattle.std.specs.Prelude.{◌≡◌, Bool, true, false, cond, List, [], ◌∷◌, ◌==◌, refl}
+use Rattle.std.specs.Prelude.{◌≡◌, Bool, true, false, cond, List, [], ◌∷◌, ◌==◌}
 use Rattle.std.proofs.lemmas.Bool.{and_parts}
 use Rattle.input.specs.declared.token.Token.{Token}
 use Rattle.input.specs.declared.lookahead.Lookahead.{Lookahead}
@@ -7,7 +7,7 @@ use Rattle.input.specs.declared.lookahead.Held.{Held}
 use Rattle.input.specs.declared.lookahead.Held.TheVariants.{Two, One, Nothing}
 use Rattle.input.specs.declared.channel_filter.Visible.{Visible}
 use Rattle.input.specs.declared.channel_filter.ChannelFilter.{ChannelFilter}
-use Rattle.input.specs.Tokens.{is_input, is_input_end}
+use Rattle.input.specs.Tokens.{is_input_end}
 use Rattle.input.specs.Streams.{Stream, WellFormed, Supply, SupplyFormed, Inputs}
 use Rattle.input.specs.Held.{held_formed, held_tokens, held_end}
 use Rattle.input.specs.Lookahead.{stream}

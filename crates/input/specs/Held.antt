@@ -1,5 +1,5 @@
 -- What is held ready of a stream.
-use Rattle.std.specs.Prelude.{Bool, true, false, cond, ◌&&◌, List, [], ◌∷◌}
+use Rattle.std.specs.Prelude.{Bool, cond, ◌&&◌, List, [], ◌∷◌}
 use Rattle.input.specs.declared.token.Token.{Token}
 use Rattle.input.specs.declared.lookahead.Held.{Held}
 use Rattle.input.specs.declared.lookahead.Held.TheVariants.{Two, One, Nothing}

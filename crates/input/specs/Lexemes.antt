@@ -1,5 +1,5 @@
 -- The token rules: what may stand at the front of a text, how far it goes, and which type it has.
-use Rattle.std.specs.Prelude.{ℕ, zero, suc, ◌+◌, max, Bool, true, false, cond, List, [], ◌∷◌, length, take, drop, Some, None, codes, Option}
+use Rattle.std.specs.Prelude.{ℕ, zero, suc, ◌+◌, max, cond, List, [], ◌∷◌, length, take, drop, Some, None, codes, Option}
 use Rattle.std.specs.List.{prefix_len}
 use Rattle.input.specs.declared.lexeme.Lexeme.{Lexeme}
 use Rattle.input.specs.declared.lexeme.Lexeme.TheVariants.{Name, Number, Sign, Blank, Comment, Unknown}

@@ -1,9 +1,9 @@
 -- The tokens of a text, and the stream that they make.
-use Rattle.std.specs.Prelude.{ℕ, zero, suc, ◌+◌, List, [], ◌∷◌, length, take, drop, ℤ, pos, negsuc, None}
+use Rattle.std.specs.Prelude.{ℕ, zero, suc, ◌+◌, List, [], ◌∷◌, length, take, drop, pos, negsuc, None}
 use Rattle.input.specs.declared.token.Token.{Token}
 use Rattle.input.specs.Bytes.{Bytes}
-use Rattle.input.specs.Streams.{Stream, Supply}
-use Rattle.input.specs.Lexemes.{Kind, Front, front_of, type_of, channel_of}
+use Rattle.input.specs.Streams.{Stream}
+use Rattle.input.specs.Lexemes.{Kind, front_of, type_of, channel_of}
 
 -- the token of a kind of lexeme with these bytes
 abbrev pub token_of : Kind → Bytes → ℕ → ℕ → ℕ → Token

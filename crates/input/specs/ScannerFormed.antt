@@ -1,14 +1,12 @@
 -- The scanner's meaning is well formed.
-use Rattle.std.specs.Prelude.{◌≡◌, ℕ, zero, suc, ◌+◌, ◌≤◌, Bool, true, false, cond, ◌&&◌, List, [], ◌∷◌, length, take, drop, nat_le, refl}
-use Rattle.std.proofs.lemmas.Bool.{and_from, le-leb}
-use Rattle.std.proofs.Common.{arith}
+use Rattle.std.specs.Prelude.{◌≡◌, ℕ, zero, suc, ◌+◌, Bool, true, false, cond, List, [], ◌∷◌, length, take, drop, nat_le, refl}
+use Rattle.std.proofs.lemmas.Bool.{and_from}
 use Rattle.input.specs.declared.scanner.Cursor.{Cursor}
 use Rattle.input.specs.declared.scanner.Scanner.{Scanner}
 use Rattle.input.specs.Bytes.{Bytes, capitals, same_bytes}
-use Rattle.input.specs.Tokens.{is_input}
 use Rattle.input.specs.Streams.{WellFormed, SupplyFormed, Inputs}
 use Rattle.input.specs.Lexemes.{Kind, name, number, sign, blank, comment, unknown, signs, words, type_in, type_of, front_of}
-use Rattle.input.specs.Scanned.{scanned_within, scanned_from}
+use Rattle.input.specs.Scanned.{scanned_within}
 use Rattle.input.specs.Scanner.{still_to_scan, scanner_stream}
 use Rattle.input.specs.Formed.{stream_formed}
 

@@ -1,5 +1,5 @@
 -- What a stream of tokens means, and what its calls do to that.
-use Rattle.std.specs.Prelude.{◌≡◌, Bool, true, false, List, [], ◌∷◌, Some, None, Option}
+use Rattle.std.specs.Prelude.{◌≡◌, Bool, true, List, [], ◌∷◌, Some, None, Option}
 use Rattle.std.specs.List.{AllByRecursion as All}
 use Rattle.input.specs.declared.token.Token.{Token}
 use Rattle.input.specs.Tokens.{is_input, is_input_end, has_place}

@@ -1,5 +1,5 @@
 -- Tokens: which is the end, which is a token of the input.
-use Rattle.std.specs.Prelude.{ℕ, zero, suc, Bool, true, false, ◌&&◌, ◌||◌, ℤ, pos, negsuc, nat_le}
+use Rattle.std.specs.Prelude.{zero, suc, Bool, true, false, ◌&&◌, ◌||◌, ℤ, pos, negsuc, nat_le}
 use Rattle.std.specs.Int.Signed.{non_neg}
 use Rattle.input.specs.declared.token.Token.{Token}
 

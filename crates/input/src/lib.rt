@@ -1,4 +1,6 @@
 // Tokens, streams of them, the scanner of Structured Text and the channel filter.
+#![tactic(auto)]
+
 pub mod channel_filter;
 pub mod examples;
 pub mod lexeme;

@@ -1,3 +1,5 @@
 // Tests of the scanner and the channel filter at their limits.
+#![tactic(auto)]
+
 #[cfg(test)]
 mod tests;

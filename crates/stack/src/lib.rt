@@ -1,4 +1,6 @@
 // A stack over a slice that the caller lends: it allocates nothing, and refuses an element that it has no place for.
+#![tactic(auto)]
+
 ghost use Rattle.std.specs.Prelude.{◌≡◌, ◌-◌, ◌≤◌, [], ◌∷◌, reverse, length, is_ok, MatchBool, MatchResult, ◌==◌, nat_lt, slice_set};
 ghost use Rattle.stack.specs.Contents.{contents, lender, lent, room};
 ghost use Rattle.std.specs.List.{slice_get};

@@ -56,7 +56,7 @@ fn hold_two(first: Token, second: Token) -> Held
 
 impl<S: TokenSource> Lookahead<S> {
     pub fn open(mut source: S) -> Lookahead<S>
-        ensures { stream S.TokenSource.supply result ≡ opened (supply source) }
+        ensures { stream S.TokenSource.supply result ≡ opened (S.TokenSource.supply source) }
     {
         let first = source.next_token();
         let second = source.next_token();

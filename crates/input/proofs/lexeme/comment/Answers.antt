@@ -2,7 +2,7 @@ use Rattle.std.proofs.Common.{◌≡◌, ℕ, ◌+◌, ◌-◌, length, take, So
 use Rattle.std.proofs.lemmas.List.{take_all}
 use Rattle.std.proofs.lemmas.Bool.{ltb-true, ltb-false}
 use Rattle.input.specs.Bytes.{Bytes}
-use Rattle.input.specs.Lexemes.{Part, comment, unknown}
+use Rattle.input.specs.Lexemes.{comment, unknown}
 use Rattle.input.proofs.Front.{comment_front}
 use Rattle.input.proofs.lexeme.comment.Goals as goal
 

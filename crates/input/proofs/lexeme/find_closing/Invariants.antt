@@ -1,4 +1,4 @@
-use Rattle.std.proofs.Common.{◌≡◌, ◌+◌, ◌-◌, ◌≤◌, length, drop}
+use Rattle.std.proofs.Common.{◌≡◌, ◌-◌, ◌≤◌, length, drop}
 use Rattle.input.specs.Lexemes.{closing}
 use Rattle.input.proofs.Closing.{further}
 use Rattle.input.proofs.lexeme.find_closing.Given as goal

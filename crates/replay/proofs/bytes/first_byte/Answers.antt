@@ -13,12 +13,12 @@ returns-then-b-ne92 c =
       omega (arith, ap length rest, length-drop 1 text, c.requires),
     )
 
-pub returns-in-err-escape-meaning : goal.returns-in-err-escape-meaning
-returns-in-err-escape-meaning c =
+pub returns-in_err-escape_meaning : goal.returns-in_err-escape_meaning
+returns-in_err-escape_meaning c =
     let text = c.args.text.now in
     let rest : Bytes = take (length text - 1) (drop 1 text) in
-    subst (λ (o : Option (ℕ × Bor Bytes)). ReadsFirst text o) (sym c.from-residual.ensures)
-    (reads_escape text rest (drop 1 rest) None (take_rest text 1) refl (omega (arith, ltb-true, ltb-false)) (eq-eqb _ _ c.if-b-ne92.false) c.in-err-escape-meaning.ensures)
+    subst (λ (o : Option (ℕ × Bor Bytes)). ReadsFirst text o) (sym c.from_residual.ensures)
+    (reads_escape text rest (drop 1 rest) None (take_rest text 1) refl (omega (arith, ltb-true, ltb-false)) (eq-eqb _ _ c.if-b-ne92.false) c.in_err-escape_meaning.ensures)
 
 pub returns : goal.returns
 returns c =
@@ -27,7 +27,7 @@ returns c =
     let whole = take_rest text 1 in
     let after = take_rest rest 1 in
     let some : 0 < length rest = omega (arith, ltb-true, ltb-false) in (
-      reads_escape text rest (take (length rest - 1) (drop 1 rest)) (Some c.in-ok-escape-meaning.field-0) whole after some
-          (eq-eqb _ _ c.if-b-ne92.false) c.in-ok-escape-meaning.ensures,
+      reads_escape text rest (take (length rest - 1) (drop 1 rest)) (Some c.in_ok-escape_meaning.field-0) whole after some
+          (eq-eqb _ _ c.if-b-ne92.false) c.in_ok-escape_meaning.ensures,
       omega (arith, ap length whole, ap length after, length-drop 1 rest, length-drop 1 text),
     )

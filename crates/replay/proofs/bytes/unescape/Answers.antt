@@ -5,4 +5,4 @@ use Rattle.replay.proofs.bytes.unescape.Goals as goal
 pub loop-rest-preserved : goal.loop-rest-preserved
 loop-rest-preserved c =
     after_step (unescaped c.args.text.now) (unescaped c.loop-rest.rest.now) (unescaped c.in-Some.after.now) _ _ c.in-Some.b
-    c.loop-rest.invariant c.in-Some.ensures.0 c.in-ok-push.ensures.items
+    c.loop-rest.invariant c.in-Some.ensures.0 c.in_ok-push.ensures.items

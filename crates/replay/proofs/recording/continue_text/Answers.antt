@@ -8,7 +8,7 @@ pub returns : goal.returns
 returns c =
     let text = vec_items c.in-Some.text in
     let line = vec_items c.args.line in
-    let out = vec_items c.extend-from-slice.new.self in
+    let out = vec_items c.extend_from_slice.new.self in
     text_goes_on _ text line out (ap (option_map vec_items) c.in-Some.is)
-    (two_pieces out text (vec_items c.push.new.self) (10 ∷ []) line c.in-ok-push.ensures.items
-    (piece_is out _ _ line c.in-ok-extend-from-slice.ensures.items c.as-slice.ensures.value))
+    (two_pieces out text (vec_items c.push.new.self) (10 ∷ []) line c.in_ok-push.ensures.items
+    (piece_is out _ _ line c.in_ok-extend_from_slice.ensures.items c.as_slice.ensures.value))

@@ -1,4 +1,4 @@
-use Rattle.std.proofs.Common.{◌≡◌, ℕ, ◌+◌, List, length, None, sym, refl, ap, ◌∙◌, subst, zero-add, arith}
+use Rattle.std.proofs.Common.{◌≡◌, ℕ, ◌+◌, length, None, sym, ap, ◌∙◌, subst, zero-add, arith}
 use Rattle.std.proofs.lemmas.List.{length-take}
 use Rattle.input.specs.declared.token.Token.{Token}
 use Rattle.input.specs.Bytes.{Bytes}
@@ -12,8 +12,9 @@ use Rattle.input.proofs.Only.{only}
 use Rattle.input.proofs.Scanning.{end_from}
 use Rattle.input.proofs.scanner.Scanner.new.Goals as goal
 
-pub invariant-of-cursor : goal.invariant-of-cursor
-invariant-of-cursor c = (omega (arith, ap length c.bytes.ensures ∙ length-take 65536 c.args.text.bytes.now), (omega arith, tt))
+pub invariant_of-cursor : goal.invariant_of-cursor
+invariant_of-cursor c =
+    record { short = omega (arith, ap length c.bytes.ensures ∙ length-take 65536 c.args.text.bytes.now); counted = omega arith }
 
 at_start : (text : Bytes) → end_from 0 0 text ≡ end_at (length (scanned text)) (length text)
 at_start text = ap (λ (i : ℕ). end_at i (0 + length text)) (zero-add _) ∙ ap (end_at (length (scanned text))) (zero-add _)

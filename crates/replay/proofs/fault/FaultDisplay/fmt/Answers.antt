@@ -5,7 +5,7 @@ use Rattle.replay.specs.Faults.{message}
 use Rattle.replay.proofs.fault.FaultDisplay.fmt.Goals as goal
 
 pub returns-in-UnknownWord-clause-writes : goal.returns-in-UnknownWord-clause-writes
-returns-in-UnknownWord-clause-writes g c = λ plain ok. has_written_of_eq g.W.Write.write_str_gives _ _ _ _ (sym (ap message c.in-UnknownWord.is)) (c.write-str.ensures.writes plain ok)
+returns-in-UnknownWord-clause-writes g c = λ plain ok. has_written_of_eq g.W.Write.write_str_gives _ _ _ _ (sym (ap message c.in-UnknownWord.is)) (c.write_str.ensures.writes plain ok)
 
 pub returns-in-NotYet-clause-writes : goal.returns-in-NotYet-clause-writes
 returns-in-NotYet-clause-writes g c = λ plain ok.
@@ -13,11 +13,11 @@ returns-in-NotYet-clause-writes g c = λ plain ok.
     (c.write.ensures.writes plain ok)
 
 pub returns-in-EmptyName-clause-writes : goal.returns-in-EmptyName-clause-writes
-returns-in-EmptyName-clause-writes g c = λ plain ok. has_written_of_eq g.W.Write.write_str_gives _ _ _ _ (sym (ap message c.in-EmptyName.is)) (c.write-str-in-EmptyName.ensures.writes plain ok)
+returns-in-EmptyName-clause-writes g c = λ plain ok. has_written_of_eq g.W.Write.write_str_gives _ _ _ _ (sym (ap message c.in-EmptyName.is)) (c.write_str-in-EmptyName.ensures.writes plain ok)
 
 pub returns-in-UnknownEscape-clause-writes : goal.returns-in-UnknownEscape-clause-writes
 returns-in-UnknownEscape-clause-writes g c = λ plain ok.
-    has_written_of_eq g.W.Write.write_str_gives _ _ _ _ (sym (ap message c.in-UnknownEscape.is)) (c.write-str-in-UnknownEscape.ensures.writes plain ok)
+    has_written_of_eq g.W.Write.write_str_gives _ _ _ _ (sym (ap message c.in-UnknownEscape.is)) (c.write_str-in-UnknownEscape.ensures.writes plain ok)
 
 pub returns-in-Memory-clause-writes : goal.returns-in-Memory-clause-writes
-returns-in-Memory-clause-writes g c = λ plain ok. has_written_of_eq g.W.Write.write_str_gives _ _ _ _ (sym (ap message c.in-Memory.is)) (c.write-str-in-Memory.ensures.writes plain ok)
+returns-in-Memory-clause-writes g c = λ plain ok. has_written_of_eq g.W.Write.write_str_gives _ _ _ _ (sym (ap message c.in-Memory.is)) (c.write_str-in-Memory.ensures.writes plain ok)

@@ -10,22 +10,22 @@ returns-in-Err c =
     let rest = c.loop-rest.rest.now in
     let full = eqb-false _ _ (sym c.loop-rest-test.ensures) in
     let some : 0 < length rest = omega arith in
-    line_refused (c.loop-rest.number + 1) (said_by c.loop-rest.head) rest c.split-once.result.0.now (unwrap_or (behind 10 rest) []) some c.split-once.ensures.front refl
+    line_refused (c.loop-rest.number + 1) (said_by c.loop-rest.head) rest c.split_once.result.0.now (unwrap_or (behind 10 rest) []) some c.split_once.ensures.front refl
     (recorded c.args.input.now) c.in-Err.fault c.loop-rest.invariant.1 c.in-Err.ensures
 
 pub loop-rest-preserved : goal.loop-rest-preserved
 loop-rest-preserved c =
     let rest = c.loop-rest.rest.now in
-    let after = c.unwrap-or-rest.result.now in
+    let after = c.unwrap_or-rest.result.now in
     let full = eqb-false _ _ (sym c.loop-rest-test.ensures) in
     let some : 0 < length rest = omega arith in
     let shorter : length after < length rest =
-    rest_shorter c.split-once.result.1 _ c.unwrap-or-rest.result (length rest) c.unwrap-or-rest.ensures refl some c.split-once.ensures.shorter in
+    rest_shorter c.split_once.result.1 _ c.unwrap_or-rest.result (length rest) c.unwrap_or-rest.ensures refl some c.split_once.ensures.shorter in
     let then : after ≡ unwrap_or (behind 10 rest) [] =
-    rest_is c.split-once.result.1 _ c.unwrap-or-rest.result c.unwrap-or-rest.ensures refl ∙ ap (λ (o : Option Bytes). unwrap_or o []) c.split-once.ensures.rest in (
+    rest_is c.split_once.result.1 _ c.unwrap_or-rest.result c.unwrap_or-rest.ensures refl ∙ ap (λ (o : Option Bytes). unwrap_or o []) c.split_once.ensures.rest in (
       omega (arith, c.loop-rest.invariant.0),
       c.loop-rest.invariant.1
-          ∙ line_more (c.loop-rest.number + 1) (said_by c.loop-rest.head) rest c.split-once.result.0.now after some c.split-once.ensures.front then
+          ∙ line_more (c.loop-rest.number + 1) (said_by c.loop-rest.head) rest c.split_once.result.0.now after some c.split_once.ensures.front then
           (said_by c.in-Ok.head) c.in-Ok.ensures,
     )
 

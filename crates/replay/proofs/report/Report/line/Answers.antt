@@ -7,5 +7,5 @@ use Rattle.replay.proofs.report.Report.line.Goals as goal
 pub returns : goal.returns
 returns c =
     two_pieces _ (printed c.args.self.now) _ c.args.line.now (10 ∷ [])
-    (c.in-ok-extend-from-slice.ensures.items ∙ ap (λ (bs : Bytes). printed c.args.self.now ++ bs) c.as-bytes.ensures.value)
-    c.in-ok-push.ensures.items
+    (c.in_ok-extend_from_slice.ensures.items ∙ ap (λ (bs : Bytes). printed c.args.self.now ++ bs) c.as_bytes.ensures.value)
+    c.in_ok-push.ensures.items

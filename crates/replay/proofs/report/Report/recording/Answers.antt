@@ -8,5 +8,5 @@ pub returns-in-Ok : goal.returns-in-Ok
 returns-in-Ok c =
     let bytes = vec_items c.args.recording.now.text in
     let taken = c.in-Ok.ensures in
-    let fits : length bytes ≤ 65536 = omega (arith, taken.0, ap length c.as-slice.ensures.value) in
-    last_is c.tokens.result _ (printed c.args.self.now) _ (text_printed bytes) c.tokens.ensures (text_fits bytes _ fits (taken.1 ∙ c.as-slice.ensures.value))
+    let fits : length bytes ≤ 65536 = omega (arith, taken.0, ap length c.as_slice.ensures.value) in
+    last_is c.tokens.result _ (printed c.args.self.now) _ (text_printed bytes) c.tokens.ensures (text_fits bytes _ fits (taken.1 ∙ c.as_slice.ensures.value))

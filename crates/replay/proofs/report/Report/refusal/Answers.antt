@@ -8,7 +8,7 @@ use Rattle.replay.proofs.report.Report.refusal.Goals as goal
 pub returns : goal.returns
 returns c =
     let is =
-    c.as-str.ensures.value ∙ c.in-ok-line.ensures.ok
+    c.as_str.ensures.value ∙ c.in_ok-line.ensures.ok
     ∙ ap (λ (n : ℕ). codes "text -> refused " ++ (decimal n ++ codes " (out of range)")) c.number-number.ensures
     ∙ ap (λ (bs : Bytes). codes "text -> refused " ++ (bs ++ codes " (out of range)")) (decimal_digit 3 (lit< tt)) in
     last_is c.line.result _ (printed c.args.self.now) _ (line_of (codes "text -> refused 3 (out of range)")) c.line.ensures (ap line_of is)

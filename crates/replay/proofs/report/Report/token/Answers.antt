@@ -9,8 +9,8 @@ returns c =
     let before = printed c.args.self.now in
     let part = escaped c.args.part.now in
     let numbers = numbers_of c.args.token.now in
-    let first : vec_items c.extend-from-slice.new.self ≡ before ++ numbers =
-    piece_is (vec_items c.extend-from-slice.new.self) before c.as-bytes.result.now numbers c.in-ok-extend-from-slice.ensures.items (c.as-bytes.ensures.value ∙ c.in-ok-numbers.ensures) in
-    last_piece c.line.result _ before (vec_items c.extend-from-slice.new.self) numbers (part ++ (codes "'" ++ 10 ∷ [])) first
-    (last_piece c.line.result _ (vec_items c.extend-from-slice.new.self) (vec_items c.escape.new.out) part (codes "'" ++ 10 ∷ [])
-    c.in-ok-escape.ensures c.line.ensures)
+    let first : vec_items c.extend_from_slice.new.self ≡ before ++ numbers =
+    piece_is (vec_items c.extend_from_slice.new.self) before c.as_bytes.result.now numbers c.in_ok-extend_from_slice.ensures.items (c.as_bytes.ensures.value ∙ c.in_ok-numbers.ensures) in
+    last_piece c.line.result _ before (vec_items c.extend_from_slice.new.self) numbers (part ++ (codes "'" ++ 10 ∷ [])) first
+    (last_piece c.line.result _ (vec_items c.extend_from_slice.new.self) (vec_items c.escape.new.out) part (codes "'" ++ 10 ∷ [])
+    c.in_ok-escape.ensures c.line.ensures)

@@ -24,7 +24,7 @@ loop-bytes-preserved c =
       c.current-token-in-loop-bytes.ensures,
       p.same ∙ c.loop-bytes.invariant.1,
       listed _ _ _ _ _ _ c.loop-bytes.invariant.2 (printed c.token.new.self) _ _ token p.first
-          (piece_is _ _ _ _ c.in-ok-token.ensures (ap (λ (bs : Bytes). token_line token bs) c.part-of.ensures)) c.count.ensures,
+          (piece_is _ _ _ _ c.in_ok-token.ensures (ap (λ (bs : Bytes). token_line token bs) c.part-of.ensures)) c.count.ensures,
     )
 
 pub returns : goal.returns
@@ -36,5 +36,5 @@ returns c =
     all_listed (bytes_of c.args.text) c.bytes-bytes.result.now (printed c.args.self.now) (printed c.loop-bytes.self) (printed c.token-2.new.self)
     (scanner_stream c.new-scanner.result) c.loop-bytes.token c.loop-bytes.tally c.bytes-bytes.ensures c.new-scanner.ensures.stream
     (done.1 ∙ c.loop-bytes.invariant.1)
-    (all_lines _ _ _ _ _ _ c.loop-bytes.invariant.2 done.0) c.in-ok-token-2.ensures
+    (all_lines _ _ _ _ _ _ c.loop-bytes.invariant.2 done.0) c.in_ok-token-2.ensures
     (all_counted _ _ _ _ _ _ c.loop-bytes.invariant.2 done.0) (few _ _ _ _ _ c.loop-bytes.tally c.loop-bytes.invariant.2 short)

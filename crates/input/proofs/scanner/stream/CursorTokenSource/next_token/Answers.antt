@@ -1,4 +1,4 @@
-use Rattle.std.proofs.Common.{◌≡◌, ℕ, ◌+◌, ◌-◌, ◌≤◌, length, take, drop, Some, sym, refl, ap, ◌∙◌, subst, arith}
+use Rattle.std.proofs.Common.{◌≡◌, ℕ, ◌+◌, length, drop, Some, ap, ◌∙◌, arith}
 use Rattle.std.proofs.lemmas.List.{length-drop, take_rest}
 use Rattle.input.specs.declared.lexeme.Lexeme.{Lexeme}
 use Rattle.input.specs.declared.scanner.Cursor.{Cursor}
@@ -11,38 +11,38 @@ use Rattle.input.proofs.scanner.stream.CursorTokenSource.next_token.Goals as goa
 found : (self : Cursor) (l : Lexeme) → Some (part_of l) ≡ first_part self.rest.now → Steps self.rest.now (part_of l) self.index self.offset
 found self l e = steps self.rest.now (part_of l) self.index self.offset e
 
-pub token-of-token-requires : goal.token-of-token-requires
-token-of-token-requires c =
+pub token_of-token-requires : goal.token_of-token-requires
+token_of-token-requires c =
     let self = c.args.self.now in
     let s = found self c.in-Some.lexeme c.in-Some.ensures in
     (omega (arith, self.short, self.counted), omega (arith, s.within, self.short))
 
-pub slice-bounds-self-count : goal.slice-bounds-self-count
-slice-bounds-self-count c =
+pub slice_bounds-self-count : goal.slice_bounds-self-count
+slice_bounds-self-count c =
     let self = c.args.self.now in
     let s = found self c.in-Some.lexeme c.in-Some.ensures in
     omega (arith, s.within, ap length c.bytes-len.ensures)
 
-pub slice-bounds-self-start : goal.slice-bounds-self-start
-slice-bounds-self-start c =
+pub slice_bounds-self-start : goal.slice_bounds-self-start
+slice_bounds-self-start c =
     let self = c.args.self.now in
     let s = found self c.in-Some.lexeme c.in-Some.ensures in
     omega (arith, s.within, ap length c.bytes-len.ensures)
 
-pub overflow-add-self : goal.overflow-add-self
-overflow-add-self c =
+pub overflow_add-self : goal.overflow_add-self
+overflow_add-self c =
     let self = c.args.self.now in
     let s = found self c.in-Some.lexeme c.in-Some.ensures in
     omega (arith, s.within, ap length c.bytes-len.ensures, self.short)
 
-pub invariant-of-self : goal.invariant-of-self
-invariant-of-self c =
+pub invariant_of-self : goal.invariant_of-self
+invariant_of-self c =
     let self = c.args.self.now in
     let s = found self c.in-Some.lexeme c.in-Some.ensures in
     let n = length c.bytes-len.result.now in
     let same = ap length c.bytes-len.ensures in
     let left = ap length (take_rest self.rest.now n) ∙ length-drop n self.rest.now in
-    (omega (arith, s.within, same, left, self.short), (omega (arith, s.some, same, self.counted), tt))
+    record { short = omega (arith, s.within, same, left, self.short); counted = omega (arith, s.some, same, self.counted) }
 
 pub returns : goal.returns
 returns c =
@@ -53,7 +53,7 @@ returns c =
     let n = length c.bytes-len.result.now in
     let same = ap length c.bytes-len.ensures in
     record {
-      given = c.token-of-token.ensures ∙ s.given;
+      given = c.token_of-token.ensures ∙ s.given;
       left = ap (scanned_from i (self.offset + n)) (take_rest text n)
           ∙ ap (λ (m : ℕ). scanned_from i (self.offset + m) (drop m text)) same ∙ s.left;
       same = ap (end_from i (self.offset + n)) (take_rest text n)
