@@ -1,7 +1,7 @@
 -- The tokens of a text obey the law of scanning.
 use Rattle.std.proofs.Common.{◌≡◌, ℕ, zero, suc, ◌+◌, ◌<◌, ◌≤◌, List, [], ◌∷◌, ◌++◌, length, take, drop, pos, sym, refl, ap, ◌∙◌, subst₂, arith, take-append-drop}
 use Rattle.std.proofs.lemmas.List.{length-drop, drop-drop}
-use Rattle.std.specs.List.{flat_map, AllByRecursion as All}
+use Rattle.std.specs.List.{flat_map, AllByRecursion}
 use Rattle.input.specs.declared.token.Token.{Token}
 use Rattle.input.specs.Bytes.{Bytes}
 use Rattle.input.specs.Lexemes.{front_of, type_of}
@@ -13,11 +13,11 @@ use Rattle.input.proofs.Rules.{front_reads}
 -- the law of the tokens from an index and an offset on
 pub record ScansFrom (text : Bytes) (index offset : ℕ) (ts : List Token) : Type 0 where
   pub whole : flat_map (bytes_at text) ts ≡ drop offset text
-  pub some : All (λ t. 0 < t.len) ts
-  pub within : All (λ t. t.offset + t.len ≤ length text) ts
+  pub some : AllByRecursion (λ t. 0 < t.len) ts
+  pub within : AllByRecursion (λ t. t.offset + t.len ≤ length text) ts
   pub placed : Placed offset ts
   pub counted : Counted index ts
-  pub by_rule : All (ByRule text) ts
+  pub by_rule : AllByRecursion (ByRule text) ts
 
 none : (text : Bytes) (index offset : ℕ) → drop offset text ≡ [] → ScansFrom text index offset []
 none text index offset e = record { whole = sym e; some = tt; within = tt; placed = tt; counted = tt; by_rule = tt }

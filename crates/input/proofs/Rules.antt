@@ -2,7 +2,7 @@
 use Rattle.std.proofs.Common.{◌≡◌, ℕ, zero, suc, ◌+◌, ◌<◌, ◌≤◌, max, Bool, true, false, cond, ◌&&◌, eqb, ltb, List, [], ◌∷◌, ◌++◌, length, take, drop, Some, None, codes, Option, sym, refl, ap, ◌∙◌, subst, inl, inr, ⊎_elim, append_assoc, one-add, arith, take-append-drop}
 use Rattle.std.proofs.lemmas.List.{take_all, take_at, drop_all, length-take-le}
 use Rattle.std.proofs.lemmas.Bool.{cond_both, and_parts, and_from, eqb-true, eq-eqb, false≢true, both_ways, cases_lt, ltb-true, or_left}
-use Rattle.std.specs.List.{prefix_len, AllByRecursion as All}
+use Rattle.std.specs.List.{prefix_len, AllByRecursion}
 use Rattle.input.specs.Bytes.{Bytes, begins_name, is_in_name, is_digit, is_blank, starts_with, same_bytes}
 use Rattle.input.specs.Lexemes.{Front, sign, signs, type_in, longest_in, one_more, closing, comment_or_rest, sign_or_byte, front_of}
 use Rattle.input.proofs.Front.{longest_within, leading_some}
@@ -57,7 +57,7 @@ is_same (w ∷ ws) = and_from _ _ (eq-eqb w w refl) (is_same ws)
 
 -- the types of a list are above 0
 abbrev pub Typed : List (Bytes × ℕ) → Type 0
-Typed list = All (λ (e : Bytes × ℕ). 0 < e.1) list
+Typed list = AllByRecursion (λ (e : Bytes × ℕ). 0 < e.1) list
 
 take_starts : (ws text : Bytes) → starts_with ws text ≡ true → take (length ws) text ≡ ws
 take_starts ws text e = ap (take (length ws)) (sym (starts ws text e)) ∙ take_at ws (drop (length ws) text) (length ws) refl

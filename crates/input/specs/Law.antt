@@ -1,6 +1,6 @@
 -- The law of scanning: what the tokens of a text are, whatever finds them.
 use Rattle.std.specs.Prelude.{◌≡◌, ℕ, suc, ◌+◌, ◌<◌, ◌≤◌, Bool, true, false, ◌⊎◌, List, [], ◌∷◌, ◌++◌, length, take, drop, pos, codes}
-use Rattle.std.specs.List.{flat_map, AllByRecursion as All}
+use Rattle.std.specs.List.{flat_map, AllByRecursion}
 use Rattle.input.specs.declared.token.Token.{Token}
 use Rattle.input.specs.Bytes.{Bytes, begins_name, is_in_name, is_digit, is_blank}
 use Rattle.input.specs.Lexemes.{Kind, name, number, sign, blank, comment, unknown, signs, type_in, type_of, channel_of}
@@ -19,7 +19,7 @@ Stops test (b ∷ bs) = test b ≡ false
 
 -- all bytes pass the test, and the run does not go on behind them
 abbrev pub Run : (ℕ → Bool) → Bytes → Bytes → Type 0
-Run test part rest = All (λ b. test b ≡ true) part × Stops test rest
+Run test part rest = AllByRecursion (λ b. test b ≡ true) part × Stops test rest
 
 -- the list of signs has these bytes, and so a type for them
 abbrev pub IsSign : Bytes → Type 0
@@ -98,8 +98,8 @@ Counted index (t ∷ ts) = (t.index ≡ pos index) × Counted (suc index) ts
 -- ends; the indices count up from 0; each obeys its rule
 pub record Scans (text : Bytes) (ts : List Token) : Type 0 where
   pub whole : flat_map (bytes_at text) ts ≡ text
-  pub some : All (λ t. 0 < t.len) ts
-  pub within : All (λ t. t.offset + t.len ≤ length text) ts
+  pub some : AllByRecursion (λ t. 0 < t.len) ts
+  pub within : AllByRecursion (λ t. t.offset + t.len ≤ length text) ts
   pub placed : Placed 0 ts
   pub counted : Counted 0 ts
-  pub by_rule : All (ByRule text) ts
+  pub by_rule : AllByRecursion (ByRule text) ts

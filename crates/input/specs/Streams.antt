@@ -1,6 +1,6 @@
 -- What a stream of tokens means, and what its calls do to that.
 use Rattle.std.specs.Prelude.{◌≡◌, Bool, true, List, [], ◌∷◌, Some, None, Option}
-use Rattle.std.specs.List.{AllByRecursion as All}
+use Rattle.std.specs.List.{AllByRecursion}
 use Rattle.input.specs.declared.token.Token.{Token}
 use Rattle.input.specs.Tokens.{is_input, is_input_end, has_place}
 
@@ -40,7 +40,7 @@ moved s = moved_past s.ahead s
 -- ── well formed: the tokens ahead are of the input, the end is its end, and a previous token has a place in it ──
 
 abbrev pub Inputs : List Token → Type 0
-Inputs ts = All (λ t. is_input t ≡ true) ts
+Inputs ts = AllByRecursion (λ t. is_input t ≡ true) ts
 
 -- there is no previous token, or it has a place in the input
 abbrev pub has_place_if_any : Option Token → Bool

@@ -1,4 +1,6 @@
 // Reads a recording on standard input, and prints the tokens of its text.
+#![tactic(auto)]
+
 ghost use Rattle.std.specs.Prelude.{IfOk};
 ghost use Rattle.replay.specs.Answers.{Answers};
 ghost use Rattle.replay.specs.Printed.{printed};
@@ -17,7 +19,7 @@ mod recording;
 mod report;
 
 // Why the program could not do its work. A wrong line is answered, and is no such failure.
-#[derive(Drop)]
+#[derive(Debug, Drop)]
 enum Failure {
     Memory,
     Io(io::Error),

@@ -24,7 +24,7 @@ loop-bytes-preserved c =
       c.current-token-in-loop-bytes.ensures,
       p.same ∙ c.loop-bytes.invariant.1,
       listed _ _ _ _ _ _ c.loop-bytes.invariant.2 (printed c.token.new.self) _ _ token p.first
-          (piece_is _ _ _ _ c.in_ok-token.ensures (ap (λ (bs : Bytes). token_line token bs) c.part-of.ensures)) c.count.ensures,
+          (piece_is _ _ _ _ c.in_ok-token.ensures (ap (λ (bs : Bytes). token_line token bs) c.part_of.ensures)) c.count.ensures,
     )
 
 pub returns : goal.returns
