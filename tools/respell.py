@@ -2,8 +2,8 @@
 """Spells the repository's own definitions and lemmas as today's Rattle does: types and facts in camel case, all else in snake case.
 
 Run once at the top of the repository, after the kit's port.py. It goes by whole names: a name from the list below, wherever it stands in
-an .antt file or in a clause of an .rt file. Names of functions, strings and comments stay. Lemmas whose dash joins two names
-(`length-contents`, `contents-push`) keep it. It stops where a new name stands already.
+an .antt or .rt file outside strings and comments (names of functions have no dash, so they stay). Lemmas whose dash joins two names
+(`length-contents`, `contents-push`) keep it. It says where a new name stands already in a crate, for a reader to look at.
 """
 import re
 import sys
