@@ -14,7 +14,7 @@ is_digit b = is_ascii_digit b
 abbrev pub begins_name : ℕ → Bool
 begins_name b = is_ascii_alphabetic b || b == 95
 
--- that, or a digit
+-- a byte that a name may go on with: an ASCII letter, `_` or an ASCII digit
 abbrev pub is_in_name : ℕ → Bool
 is_in_name b = begins_name b || is_digit b
 

@@ -1,13 +1,14 @@
--- Token lists of some short texts, as the rules compute them.
+-- What some short texts are cut into, as the rules compute it: the types of the tokens, once their lengths.
 use Rattle.std.specs.Prelude.{◌≡◌, ℕ, List, [], ◌∷◌, map, ℤ, pos, codes}
 use Rattle.input.specs.declared.token.Token.{Token}
 use Rattle.input.specs.Scanned.{scanned, scanner}
 use Rattle.input.specs.Filter.{filtered}
 
--- the types of some tokens, and their lengths
+-- the type of each of some tokens, in their order
 abbrev pub types : List Token → List ℤ
 types ts = map (λ t. t.ttype) ts
 
+-- how many bytes each of them has
 abbrev pub lengths : List Token → List ℕ
 lengths ts = map (λ t. t.len) ts
 

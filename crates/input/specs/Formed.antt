@@ -13,11 +13,13 @@ use Rattle.input.specs.Held.{held_formed, held_tokens, held_end}
 use Rattle.input.specs.Lookahead.{stream}
 use Rattle.input.specs.Filter.{on_channel_0, visible, filter_stream}
 
+-- where what is held and what the source has are formed, the tokens ahead are tokens of the input
 held_inputs : (h : Held) (s : Supply) → held_formed h ≡ true → SupplyFormed s → Inputs (held_tokens h s)
 held_inputs (Two a b) s h f = ((and_parts _ _ h).0, ((and_parts _ _ h).1, f.inputs))
 held_inputs (One a end) s h f = ((and_parts _ _ h).0, tt)
 held_inputs (Nothing end) s h f = tt
 
+-- and the end behind them is an end of the input
 held_ends : (h : Held) (s : Supply) → held_formed h ≡ true → SupplyFormed s → is_input_end (held_end h s) ≡ true
 held_ends (Two a b) s h f = f.ends
 held_ends (One a end) s h f = (and_parts _ _ h).1
@@ -31,6 +33,7 @@ stream_formed supply l f = record {
   ends = held_ends l.held (supply l.source) l.formed f;
 }
 
+-- leaving tokens out leaves tokens of the input
 every_visible : (ts : List Token) → Inputs ts → Inputs (on_channel_0 ts)
 every_visible [] e = tt
 every_visible (t ∷ ts) e = go (t.channel == 0) (every_visible ts e.1)
@@ -43,7 +46,7 @@ every_visible (t ∷ ts) e = go (t.channel == 0) (every_visible ts e.1)
 pub visible_formed : (s : Stream) → WellFormed s → SupplyFormed (visible s)
 visible_formed s f = record { inputs = every_visible s.ahead f.inputs; ends = f.ends }
 
--- and so is the filter over it
+-- a filter over well-formed streams is well formed
 pub filter_formed : {S : Type 0} (meaning : S → Stream) → ((s : S) → WellFormed (meaning s)) → (f : ChannelFilter S) → WellFormed (filter_stream meaning f)
 filter_formed {S} meaning formed f =
     let source = f.tokens.source.stream in

@@ -6,18 +6,19 @@ use Rattle.input.specs.declared.lookahead.Held.TheVariants.{Two, One, Nothing}
 use Rattle.input.specs.Tokens.{is_end, is_input, is_input_end}
 use Rattle.input.specs.Streams.{Supply}
 
--- tokens of the input, and then its end
+-- what is held is tokens of the input, and in the last places its end
 abbrev pub held_formed : Held → Bool
 held_formed (Two a b) = is_input a && is_input b
 held_formed (One a end) = is_input a && is_input_end end
 held_formed (Nothing end) = is_input_end end
 
--- the current token, and the second
+-- the current token; the end where no token is left
 abbrev pub first_held : Held → Token
 first_held (Two a b) = a
 first_held (One a end) = a
 first_held (Nothing end) = end
 
+-- the token after it, in the same way
 abbrev pub second_held : Held → Token
 second_held (Two a b) = b
 second_held (One a end) = end

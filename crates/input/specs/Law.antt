@@ -70,10 +70,11 @@ Reads unknown part rest = Unclosed part rest ⊎ Lone part rest
 
 -- ── the tokens of a text ──
 
--- the part of the text that a token has, and what stands behind it
+-- the part of the text that a token has
 abbrev pub bytes_at : Bytes → Token → Bytes
 bytes_at text t = take t.len (drop t.offset text)
 
+-- what stands behind that part
 abbrev pub behind : Bytes → Token → Bytes
 behind text t = drop (t.offset + t.len) text
 

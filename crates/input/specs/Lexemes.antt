@@ -7,6 +7,7 @@ use Rattle.input.specs.Bytes.{Bytes, is_digit, begins_name, is_in_name, is_blank
 
 -- ── the signs and the words, each with its type ──
 
+-- the operators and marks; no order is meant
 abbrev pub signs : List (Bytes × ℕ)
 signs =
     (codes ":=", 3) ∷ (codes ";", 4) ∷ (codes "(", 5) ∷ (codes ")", 6) ∷ (codes "+", 7) ∷ (codes "-", 8) ∷ (codes "*", 9) ∷ (codes "/", 10)
@@ -39,10 +40,11 @@ closing (b ∷ bs) = cond (starts_with (codes "*)") (b ∷ bs)) (Some 2) (one_mo
 
 -- ── what stands at the front of a text ──
 
+-- what a front may be: a name, a run of digits, one of the signs, a run of blanks, a comment, or none of these (a `(*` that is never closed, or one byte)
 pub data Kind : Type 0 where
   name number sign blank comment unknown : Kind
 
--- its kind, and how many bytes it has
+-- what a text begins with: its kind, and how many bytes it has
 pub record Front : Type 0 where
   pub kind : Kind
   pub len : ℕ
@@ -56,12 +58,12 @@ abbrev pub comment_or_rest : Option ℕ → ℕ → Front
 comment_or_rest (Some n) all = front_is comment (2 + n)
 comment_or_rest None all = front_is unknown all
 
--- the longest sign, or an unknown byte
+-- given the length of the longest sign there: that sign, or one unknown byte where no sign fits
 abbrev pub sign_or_byte : ℕ → Front
 sign_or_byte zero = front_is unknown 1
 sign_or_byte (suc n) = front_is sign (suc n)
 
--- the front of the text that begins with this byte: the first byte decides which rule applies
+-- what a text of this first byte and these others begins with: the first byte decides which rule applies
 abbrev pub front_of : ℕ → Bytes → Front
 front_of b bs =
     let text = b ∷ bs in
@@ -73,6 +75,7 @@ front_of b bs =
 
 -- ── the type and the channel of a lexeme, by its kind and its bytes ──
 
+-- a name that is a word has the word's type and any other 1, a sign has its own; docs/TOKENS.md lists the types
 abbrev pub type_of : Kind → Bytes → ℕ
 type_of name part = type_in words (capitals part) 1
 type_of number part = 2
@@ -81,7 +84,7 @@ type_of blank part = 25
 type_of comment part = 26
 type_of unknown part = 0
 
--- blanks and comments are hidden from a parser
+-- the channel: 1 for blanks and comments, which are hidden from a parser, and 0 for all else
 abbrev pub channel_of : Kind → ℕ
 channel_of name = 0
 channel_of number = 0
@@ -92,6 +95,7 @@ channel_of unknown = 0
 
 -- ── the first lexeme of a text, if there is any: its kind, and its bytes as a part of the text ──
 
+-- a kind of lexeme, and its bytes
 pub record Part : Type 0 where
   pub kind : Kind
   pub bytes : Bytes
@@ -100,16 +104,16 @@ pub record Part : Type 0 where
 abbrev pub cut : Front → Bytes → Part
 cut f text = record { kind = f.kind; bytes = take f.len text }
 
--- none where the text is empty
+-- what a text begins with, as kind and bytes; none where the text is empty
 abbrev pub first_part : Bytes → Option Part
 first_part [] = None
 first_part (b ∷ bs) = Some (cut (front_of b bs) (b ∷ bs))
 
--- the same where `(*` begins it
+-- the same, but none unless the text begins with `(*`
 abbrev pub comment_part : Bytes → Option Part
 comment_part text = cond (starts_with (codes "(*") text) (Some (cut (comment_or_rest (closing (drop 2 text)) (length text)) text)) None
 
--- a lexeme of the code
+-- what a lexeme of the code stands for
 abbrev pub part_of : Lexeme → Part
 part_of (Name b) = record { kind = name; bytes = b.now }
 part_of (Number b) = record { kind = number; bytes = b.now }

@@ -15,6 +15,7 @@ abbrev Small : List (Bytes × ℕ) → Type 0
 Small [] = Unit {0}
 Small ((bytes, k) ∷ more) = (nat_le k 65535 ≡ true) × Small more
 
+-- the type that such a list gives is at most 65,535, if the type for what is not in it is
 small_in : (list : List (Bytes × ℕ)) (part : Bytes) (other : ℕ) → Small list → nat_le other 65535 ≡ true → nat_le (type_in list part other) 65535 ≡ true
 small_in [] part other s o = o
 small_in ((bytes, k) ∷ more) part other s o = go (same_bytes bytes part) (small_in more part other s.1 o)
@@ -23,12 +24,15 @@ small_in ((bytes, k) ∷ more) part other s o = go (same_bytes bytes part) (smal
     go true e = s.0
     go false e = e
 
+-- the types of the signs are at most 65,535
 signs_small : Small signs
 signs_small = (refl, (refl, (refl, (refl, (refl, (refl, (refl, (refl, (refl, (refl, (refl, (refl, (refl, (refl, (refl, (refl, (refl, tt)))))))))))))))))
 
+-- the types of the words are at most 65,535
 words_small : Small words
 words_small = (refl, (refl, (refl, (refl, (refl, tt)))))
 
+-- every kind of lexeme has a type of at most 65,535, whatever its bytes
 type_small : (k : Kind) (part : Bytes) → nat_le (type_of k part) 65535 ≡ true
 type_small name part = small_in words (capitals part) 1 words_small refl
 type_small number part = refl
@@ -37,6 +41,7 @@ type_small blank part = refl
 type_small comment part = refl
 type_small unknown part = refl
 
+-- all tokens that the rules give for a text are tokens of the input
 inputs : (more index offset : ℕ) (text : Bytes) → Inputs (scanned_within more index offset text)
 inputs zero index offset text = tt
 inputs (suc more) index offset [] = tt
@@ -44,10 +49,10 @@ inputs (suc more) index offset (b ∷ bs) =
     let front = front_of b bs in
     (and_from _ _ (type_small front.kind (take front.len (b ∷ bs))) refl, inputs more (suc index) (offset + front.len) (drop front.len (b ∷ bs)))
 
--- what is still to be scanned is formed
+-- what a scanner has still to give is tokens of the input, and then an end of one
 pub still_formed : (c : Cursor) → SupplyFormed (still_to_scan c)
 still_formed c = record { inputs = inputs (length c.rest.now) c.index c.offset c.rest.now; ends = refl }
 
--- and so the scanner is a well-formed stream
+-- a scanner is a well-formed stream
 pub scanner_formed : (s : Scanner) → WellFormed (scanner_stream s)
 scanner_formed s = stream_formed still_to_scan s.tokens (still_formed s.tokens.source)

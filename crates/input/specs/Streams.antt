@@ -10,7 +10,7 @@ pub record Stream : Type 0 where
   pub ahead : List Token
   pub end : Token
 
--- the end stands for a missing one
+-- the first of some tokens, or the end where there is none
 abbrev pub first_of : List Token → Token → Token
 first_of [] end = end
 first_of (t ∷ ts) end = t
@@ -20,11 +20,11 @@ abbrev pub rest_of : List Token → List Token
 rest_of [] = []
 rest_of (t ∷ ts) = ts
 
--- the first ahead
+-- the current token: the first ahead, or the end
 abbrev pub current_token : Stream → Token
 current_token s = first_of s.ahead s.end
 
--- the one behind it
+-- the second token: the one behind the current token, or the end
 abbrev pub second_token : Stream → Token
 second_token s = first_of (rest_of s.ahead) s.end
 
@@ -39,6 +39,7 @@ moved s = moved_past s.ahead s
 
 -- ── well formed: the tokens ahead are of the input, the end is its end, and a previous token has a place in it ──
 
+-- each of some tokens is a token of the input
 abbrev pub Inputs : List Token → Type 0
 Inputs ts = AllByRecursion (λ t. is_input t ≡ true) ts
 
@@ -47,7 +48,7 @@ abbrev pub has_place_if_any : Option Token → Bool
 has_place_if_any None = true
 has_place_if_any (Some t) = has_place t
 
--- what an implementation of a stream owes with its meaning
+-- what an implementation of a stream owes with its meaning, for every value that it can have
 pub record WellFormed (s : Stream) : Type 0 where
   pub before : has_place_if_any s.previous ≡ true
   pub inputs : Inputs s.ahead
@@ -55,11 +56,12 @@ pub record WellFormed (s : Stream) : Type 0 where
 
 -- ── what a source has still to give: tokens, and then the end, again and again ──
 
+-- the tokens that a source has still to give, and the end behind them
 pub record Supply : Type 0 where
   pub tokens : List Token
   pub end : Token
 
--- what a source owes with its meaning
+-- what a source owes with its meaning: tokens of the input, and then an end of one
 pub record SupplyFormed (s : Supply) : Type 0 where
   pub inputs : Inputs s.tokens
   pub ends : is_input_end s.end ≡ true

@@ -26,6 +26,6 @@ is_input t = is_type t.ttype && non_neg t.index
 abbrev pub is_input_end : Token → Bool
 is_input_end t = is_end t && non_neg t.index
 
--- either of the two
+-- a token of the input, or its end: what a stream may have passed
 abbrev pub has_place : Token → Bool
 has_place t = is_input t || is_input_end t

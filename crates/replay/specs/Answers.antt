@@ -8,15 +8,15 @@ use Rattle.replay.specs.Faults.{bad_line}
 use Rattle.replay.specs.Recordings.{Said, recorded}
 use Rattle.replay.specs.Printed.{line_of, text_printed}
 
--- the tokens of the text, or the first wrong line alone
+-- what is printed for a recording: the tokens of its text, or its first wrong line alone
 abbrev pub answer : Result Said BadLine → Bytes
 answer (Ok s) = text_printed (unwrap_or s.text [])
 answer (Err bad) = line_of (bad_line bad)
 
--- where memory is short, the line that was being read
+-- what is printed where memory is short while the line of this number is read
 abbrev pub no_memory : ℕ → Bytes
 no_memory number = line_of (bad_line (record { number = number; fault = Memory }))
 
--- what is printed is the answer, or that there was no memory: any allocation may fail, so nothing here says when that is so
+-- what is printed is the answer, or that there was no memory, at a line of any number: any allocation may fail, so nothing here says when that is so
 abbrev pub Answers : Bytes → Bytes → Type 0
 Answers input out = (out ≡ answer (recorded input)) ⊎ ((number : ℕ) × (out ≡ no_memory number))

@@ -42,9 +42,10 @@ ReadsFirst text (Some (b, rest)) = (unescaped text ≡ in_front (Some b) (unesca
 
 -- ── writing: only a tab, an LF and a CR change, to \t, \n and \r ──
 
+-- what is written for a byte: a backslash (92) and a letter for those three, any other byte itself
 abbrev pub escaped_byte : ℕ → Bytes
 escaped_byte b = cond (b == 9) (92 ∷ 116 ∷ []) (cond (b == 10) (92 ∷ 110 ∷ []) (cond (b == 13) (92 ∷ 114 ∷ []) (b ∷ [])))
 
--- each byte so, joined
+-- what is written for some bytes: what is written for each, joined
 abbrev pub escaped : Bytes → Bytes
 escaped = flat_map escaped_byte

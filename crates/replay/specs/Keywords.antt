@@ -33,7 +33,7 @@ name_of TextOf = codes "text-of"
 name_of Print = codes "print"
 name_of Walk = codes "walk"
 
--- all of them: head lines, calls, questions
+-- all keywords: those of head lines, of calls and of questions
 abbrev pub keywords : List Keyword
 keywords =
     Text ∷ Rules ∷ Strategy ∷ Recovering ∷ Listener ∷ Room

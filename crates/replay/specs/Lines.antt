@@ -19,7 +19,7 @@ abbrev pub is_blank : Bytes → Bool
 is_blank [] = true
 is_blank (b ∷ bs) = is_space b && is_blank bs
 
--- a # (35) first
+-- a line that begins with a # (35)
 abbrev pub is_comment : Bytes → Bool
 is_comment [] = false
 is_comment (b ∷ bs) = b == 35
@@ -32,7 +32,7 @@ pub data Saying : Type 0 where
   not_yet : Keyword → Saying
   wrong : Fault → Saying
 
--- by the first word, and what stands behind the space (32) after it, if there is one
+-- what a line says, by the keyword that its first word is and by what stands behind the space (32) after it, if there is one
 abbrev pub by_keyword : Option Keyword → Option Bytes → Saying
 by_keyword None rest = wrong UnknownWord
 by_keyword (Some k) rest =
@@ -43,7 +43,7 @@ by_keyword (Some k) rest =
 abbrev pub says : Bytes → Saying
 says line = cond (is_blank line || is_comment line) nothing (by_keyword (keyword (up_to 32 line)) (behind 32 line))
 
--- a line as the code has it
+-- what a line that the code has read says; a fault says that the line is wrong
 abbrev pub meaning : Result Line Fault → Saying
 meaning (Ok Skipped) = nothing
 meaning (Ok (Text bytes)) = some_text bytes.now

@@ -18,6 +18,7 @@ line_of text = text ++ 10 ∷ []
 
 -- ── a token: INDEX TYPE CHANNEL OFFSET LENGTH 'BYTES' ──
 
+-- the five numbers and the opening quote
 abbrev pub numbers_of : Token → Bytes
 numbers_of t =
     signed_decimal t.index ++ (codes " " ++ (signed_decimal t.ttype ++ (codes " " ++ (decimal t.channel ++ (codes " " ++ (decimal t.offset ++ (codes " " ++ (decimal t.len
@@ -27,7 +28,7 @@ numbers_of t =
 abbrev pub token_line : Token → Bytes → Bytes
 token_line t part = numbers_of t ++ (escaped part ++ line_of (codes "'"))
 
--- its part of the text
+-- the part of a text that a token has
 abbrev pub part_of : Bytes → Token → Bytes
 part_of text t = take t.len (drop t.offset text)
 
@@ -37,38 +38,39 @@ token_lines text = flat_map (λ t. token_line t (part_of text t))
 
 -- ── how many tokens there are, without the end ──
 
+-- whether a number is 0
 abbrev pub is_zero : ℤ → Bool
 is_zero (pos zero) = true
 is_zero (pos (suc n)) = false
 is_zero (negsuc n) = false
 
--- on channel 0
+-- whether a token is on channel 0
 abbrev pub is_visible : Token → Bool
 is_visible t = t.channel == 0
 
--- on another channel
+-- whether a token is on another channel
 abbrev pub is_hidden : Token → Bool
 is_hidden t = not (is_visible t)
 
--- of type 0
+-- whether a token is of type 0
 abbrev pub is_unknown : Token → Bool
 is_unknown t = is_zero t.ttype
 
--- how many of each sort
+-- how many of some tokens are visible, hidden and unknown
 abbrev pub tally_of : List Token → Tally
 tally_of ts = record { visible = count_by is_visible ts; hidden = count_by is_hidden ts; unknown = count_by is_unknown ts }
 
--- one token more
+-- the same numbers with one token more
 abbrev pub counted : Tally → Token → Tally
 counted n t = record { visible = n.visible + cond (is_visible t) 1 0; hidden = n.hidden + cond (is_hidden t) 1 0; unknown = n.unknown + cond (is_unknown t) 1 0 }
 
--- no more than a text can have
+-- each number is at most what a text can have
 pub record Few (n : Tally) : Type 0 where
   pub visible : n.visible ≤ 65536
   pub hidden : n.hidden ≤ 65536
   pub unknown : n.unknown ≤ 65536
 
--- in words
+-- the last line: the numbers in words
 abbrev pub tally_line : Tally → Bytes
 tally_line t =
     decimal (t.visible + t.hidden) ++ (codes " tokens, " ++ (decimal t.visible ++ (codes " on channel 0, " ++ (decimal t.hidden ++ (codes " on channel 1, "
@@ -76,6 +78,7 @@ tally_line t =
 
 -- ── a text: its tokens, the end, which has no bytes, and how many tokens there are ──
 
+-- the end of a text: behind its last token and its last byte
 abbrev pub end_of : Bytes → Token
 end_of text = end_at (length (scanned text)) (length text)
 
@@ -90,6 +93,6 @@ abbrev pub tokens_printed : Bytes → Bytes
 tokens_printed text =
     line_of (codes "tokens") ++ ((token_lines text (scanned text) ++ token_line (end_of text) []) ++ line_of (tally_line (tally_of (scanned text))))
 
--- a text has at most 65,536 bytes
+-- what is printed for some bytes: their tokens, or a refusal where they are more than the 65,536 that a text may have
 abbrev pub text_printed : Bytes → Bytes
 text_printed text = cond (nat_le (length text) 65536) (tokens_printed text) (line_of (codes "text -> refused 3 (out of range)"))

@@ -12,7 +12,7 @@ use Rattle.replay.specs.Lines.{Saying, nothing, some_text, some_rules, not_yet, 
 
 -- ── cut at each mark ──
 
--- a byte in front of the first piece
+-- puts a byte in front of the first of some pieces, and makes it the only piece where there is none
 abbrev pub onto : ℕ → List Bytes → List Bytes
 onto b [] = (b ∷ []) ∷ []
 onto b (piece ∷ more) = (b ∷ piece) ∷ more
@@ -29,17 +29,18 @@ words (b ∷ bs) = cond (b == 32) ([] ∷ words bs) (onto b (words bs))
 
 -- ── the names of rules, of which none may be empty ──
 
+-- whether each of some names has a byte
 abbrev pub none_empty : List Bytes → Bool
 none_empty [] = true
 none_empty ([] ∷ more) = false
 none_empty ((b ∷ bs) ∷ more) = none_empty more
 
--- no names at all where nothing stands behind the keyword
+-- the words of some bytes; none at all where no bytes stand behind the keyword
 abbrev pub words_if_any : Option Bytes → List Bytes
 words_if_any None = []
 words_if_any (Some bytes) = words bytes
 
--- refused where two spaces, or one at an end, leave an empty name
+-- the names in some bytes, refused where two spaces, or one at an end, leave an empty name
 abbrev pub names : Option Bytes → Result (List Bytes) Fault
 names bytes = cond (none_empty (words_if_any bytes)) (Ok (words_if_any bytes)) (Err EmptyName)
 
@@ -50,17 +51,17 @@ pub record Said : Type 0 where
   pub text : Option Bytes
   pub rules : List Bytes
 
--- a further text line goes on after an LF
+-- the text with one more text line: a further one goes on after an LF (10)
 abbrev pub continued : Option Bytes → Bytes → Bytes
 continued None line = line
 continued (Some text) line = text ++ (10 ∷ line)
 
--- one more text line; none stands for an unknown escape
+-- what is said after one more text line, whose escapes were read; none stands for an unknown escape
 abbrev pub with_text : Said → Option Bytes → Result Said Fault
 with_text s None = Err UnknownEscape
 with_text s (Some line) = Ok (record { text = Some (continued s.text line); rules = s.rules })
 
--- the names of a rules line replace earlier ones
+-- what is said after one more rules line: its names replace earlier ones
 abbrev pub with_rules : Said → Result (List Bytes) Fault → Result Said Fault
 with_rules s (Ok names) = Ok (record { text = s.text; rules = names })
 with_rules s (Err fault) = Err fault
@@ -73,26 +74,27 @@ with_line s (some_rules bytes) = with_rules s (names bytes)
 with_line s (not_yet keyword) = Err (NotYet keyword)
 with_line s (wrong fault) = Err fault
 
--- with the other lines, or where one is wrong with its number
+-- goes on to the other lines, or stops with the number of this one where it is wrong
 abbrev pub go_on : ℕ → Result Said Fault → (Said → Result Said BadLine) → Result Said BadLine
 go_on number (Ok s) others = others s
 go_on number (Err fault) others = Err (record { number = number; fault = fault })
 
--- line after line, from this number on
+-- what is said after some lines, of which the first has this number, or the first that is wrong
 abbrev pub with_lines : ℕ → Said → List Bytes → Result Said BadLine
 with_lines number s [] = Ok s
 with_lines number s (line ∷ more) = go_on number (with_line s (says line)) (λ t. with_lines (number + 1) t more)
 
--- before the first line
+-- what is said before the first line: nothing
 abbrev pub nothing_said : Said
 nothing_said = record { text = None; rules = [] }
 
--- the first line has number 1
+-- what an input says, or its first wrong line; lines count from 1
 abbrev pub recorded : Bytes → Result Said BadLine
 recorded input = with_lines 1 nothing_said (lines input)
 
 -- ── as the code has it ──
 
+-- the bytes that each of some references lends
 abbrev pub bytes_in : List (Bor Bytes) → List Bytes
 bytes_in = map (λ r. r.now)
 
@@ -100,7 +102,7 @@ bytes_in = map (λ r. r.now)
 abbrev pub said_by : Head → Said
 said_by h = record { text = option_map vec_items h.text; rules = bytes_in (vec_items h.rules) }
 
--- memory may be short at any time
+-- a fact that is claimed of every fault but want of memory, which may come at any time
 abbrev pub UnlessMemory : Fault → Type 0 → Type 0
 UnlessMemory UnknownWord P = P
 UnlessMemory (NotYet keyword) P = P
@@ -108,12 +110,12 @@ UnlessMemory EmptyName P = P
 UnlessMemory UnknownEscape P = P
 UnlessMemory Memory P = Unit {0}
 
--- a call gives what is meant, or finds no memory
+-- a call gives what is meant, by the value that its result stands for, or finds no memory
 abbrev pub Gives : {X Y : Type 0} → (Y → X) → Result X Fault → Result Y Fault → Type 0
 Gives value meant (Ok y) = meant ≡ Ok (value y)
 Gives value meant (Err fault) = UnlessMemory fault (meant ≡ Err fault)
 
--- the same of a whole recording, whose text is empty if there was no text line
+-- reading an input gives what it says, with an empty text if there was no text line, or its first wrong line, or finds no memory
 abbrev pub Recorded : Result Said BadLine → Result Recording BadLine → Type 0
 Recorded (Ok s) (Ok r) = (vec_items r.text ≡ unwrap_or s.text []) × (bytes_in (vec_items r.rules) ≡ s.rules)
 Recorded (Err bad) (Ok r) = ⊥

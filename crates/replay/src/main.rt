@@ -1,7 +1,8 @@
 // Reads a recording on standard input, and prints the tokens of its text.
 #![tactic(auto)]
 
-ghost use Rattle.std.specs.Prelude.{IfOk};
+ghost use Rattle.std.specs.Prelude.{◌≡◌, IfOk};
+ghost use Rattle.replay.specs.declared.Failure.TheVariants.{Memory, Io};
 ghost use Rattle.replay.specs.Answers.{Answers};
 ghost use Rattle.replay.specs.Printed.{printed};
 
@@ -26,12 +27,16 @@ enum Failure {
 }
 
 impl From<AllocError> for Failure {
+    ghost from_gives = { λ _ r. r ≡ Memory };
+
     fn from(_e: AllocError) -> Failure {
         Failure::Memory
     }
 }
 
 impl From<io::Error> for Failure {
+    ghost from_gives = { λ e r. r ≡ Io e };
+
     fn from(e: io::Error) -> Failure {
         Failure::Io(e)
     }
