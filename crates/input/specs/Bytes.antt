@@ -2,7 +2,7 @@
 use Rattle.std.specs.Prelude.{ℕ, Bool, true, false, ◌&&◌, ◌||◌, List, [], ◌∷◌, map, ◌==◌}
 use Rattle.std.specs.Char.{is_ascii_digit, is_ascii_alphabetic, to_ascii_uppercase}
 
--- a text, or a part of one: each byte as a number below 256
+-- a text, or a part of one, as a list of numbers; those of a slice of bytes are below 256, which this type does not say
 abbrev pub Bytes : Type 0
 Bytes = List ℕ
 
@@ -22,7 +22,7 @@ is_in_name b = begins_name b || is_digit b
 abbrev pub is_blank : ℕ → Bool
 is_blank b = b == 32 || b == 9 || b == 10 || b == 13
 
--- each small letter as its capital
+-- each small ASCII letter as its capital; other bytes stay
 abbrev pub capitals : Bytes → Bytes
 capitals = map to_ascii_uppercase
 

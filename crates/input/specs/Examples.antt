@@ -8,7 +8,7 @@ use Rattle.input.specs.Filter.{filtered}
 abbrev pub types : List Token → List ℤ
 types ts = map (λ t. t.ttype) ts
 
--- how many bytes each of them has
+-- the length of each of some tokens, in their order
 abbrev pub lengths : List Token → List ℕ
 lengths ts = map (λ t. t.len) ts
 

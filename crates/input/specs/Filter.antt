@@ -11,14 +11,15 @@ abbrev pub on_channel_0 : List Token → List Token
 on_channel_0 [] = []
 on_channel_0 (t ∷ ts) = cond (t.channel == 0) (t ∷ on_channel_0 ts) (on_channel_0 ts)
 
--- what a filter means when it is opened over a stream: no token is previous
+-- what a filter means when it is opened over a stream: no previous token, ahead the stream's tokens ahead on channel 0, and the stream's end
 abbrev pub filtered : Stream → Stream
 filtered s = record { previous = None; ahead = on_channel_0 s.ahead; end = s.end }
 
--- what a filter finds in a stream, one by one
+-- the tokens ahead in a stream that are on channel 0, and the stream's end
 abbrev pub visible : Stream → Supply
 visible s = record { tokens = on_channel_0 s.ahead; end = s.end }
 
--- what a filter means, over what its stream means
+-- what a filter means: previous is what it consumed last; ahead are the tokens that it holds and, only if it holds two, those on channel 0 that are still
+-- ahead in its stream; the end is the one held, or else its stream's
 abbrev pub filter_stream : {S : Type 0} → (S → Stream) → ChannelFilter S → Stream
 filter_stream meaning f = stream (λ (v : Visible _). visible (meaning v.stream)) f.tokens

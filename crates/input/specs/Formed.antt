@@ -19,7 +19,7 @@ held_inputs (Two a b) s h f = ((and_parts _ _ h).0, ((and_parts _ _ h).1, f.inpu
 held_inputs (One a end) s h f = ((and_parts _ _ h).0, tt)
 held_inputs (Nothing end) s h f = tt
 
--- and the end behind them is an end of the input
+-- where what is held and what the source has are formed, the end is the end of an input
 held_ends : (h : Held) (s : Supply) → held_formed h ≡ true → SupplyFormed s → is_input_end (held_end h s) ≡ true
 held_ends (Two a b) s h f = f.ends
 held_ends (One a end) s h f = (and_parts _ _ h).1
@@ -33,7 +33,7 @@ stream_formed supply l f = record {
   ends = held_ends l.held (supply l.source) l.formed f;
 }
 
--- leaving tokens out leaves tokens of the input
+-- if all of some tokens are tokens of the input, so are those of them that are on channel 0
 every_visible : (ts : List Token) → Inputs ts → Inputs (on_channel_0 ts)
 every_visible [] e = tt
 every_visible (t ∷ ts) e = go (t.channel == 0) (every_visible ts e.1)

@@ -6,7 +6,7 @@ use Rattle.input.specs.declared.lookahead.Held.TheVariants.{Two, One, Nothing}
 use Rattle.input.specs.Tokens.{is_end, is_input, is_input_end}
 use Rattle.input.specs.Streams.{Supply}
 
--- what is held is tokens of the input, and in the last places its end
+-- whether the held tokens are tokens of the input, and the end that is held where fewer than two are is the end of one
 abbrev pub held_formed : Held → Bool
 held_formed (Two a b) = is_input a && is_input b
 held_formed (One a end) = is_input a && is_input_end end
@@ -18,7 +18,7 @@ first_held (Two a b) = a
 first_held (One a end) = a
 first_held (Nothing end) = end
 
--- the token after it, in the same way
+-- the token behind the current one; the end where there is none
 abbrev pub second_held : Held → Token
 second_held (Two a b) = b
 second_held (One a end) = end

@@ -37,7 +37,7 @@ FirstClosing n bytes = (front rest : Bytes) → front ++ (codes "*)" ++ rest) �
 abbrev pub NoClosing : Bytes → Type 0
 NoClosing bytes = (front rest : Bytes) → front ++ (codes "*)" ++ rest) ≡ bytes → ⊥
 
--- `(*`, no `*)`, and nothing behind it
+-- the part is `(*` and then bytes that have no `*)` among themselves, and it goes to the end of the text
 pub record Unclosed (part rest : Bytes) : Type 0 where
   pub inside : Bytes
   pub opens : part ≡ codes "(*" ++ inside
@@ -74,11 +74,11 @@ Reads unknown part rest = Unclosed part rest ⊎ Lone part rest
 abbrev pub bytes_at : Bytes → Token → Bytes
 bytes_at text t = take t.len (drop t.offset text)
 
--- what stands behind that part
+-- the bytes of a text that stand behind a token's part
 abbrev pub behind : Bytes → Token → Bytes
 behind text t = drop (t.offset + t.len) text
 
--- a token has the type and the channel of its kind, and is as long as its rule allows there
+-- for some kind, the token's bytes obey the rule of that kind where they stand, and the token has the type and the channel of that kind
 pub record ByRule (text : Bytes) (t : Token) : Type 0 where
   pub kind : Kind
   pub reads : Reads kind (bytes_at text t) (behind text t)
@@ -95,8 +95,8 @@ abbrev pub Counted : ℕ → List Token → Type 0
 Counted index [] = Unit {0}
 Counted index (t ∷ ts) = (t.index ≡ pos index) × Counted (suc index) ts
 
--- the law: joined, the tokens' parts are the whole text; none is empty, and none reaches beyond the text; each begins where the one before it
--- ends; the indices count up from 0; each obeys its rule
+-- the law: joined, the tokens' parts are the whole text; none is empty, and none reaches beyond the text; the first begins at 0 and each other where the
+-- one before it ends; the indices count up from 0; each obeys its rule
 pub record Scans (text : Bytes) (ts : List Token) : Type 0 where
   pub whole : flat_map (bytes_at text) ts ≡ text
   pub some : AllByRecursion (λ t. 0 < t.len) ts

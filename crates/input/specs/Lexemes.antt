@@ -7,14 +7,14 @@ use Rattle.input.specs.Bytes.{Bytes, is_digit, begins_name, is_in_name, is_blank
 
 -- ── the signs and the words, each with its type ──
 
--- the operators and marks; no order is meant
+-- the operators and marks, each with its type; no order is meant
 abbrev pub signs : List (Bytes × ℕ)
 signs =
     (codes ":=", 3) ∷ (codes ";", 4) ∷ (codes "(", 5) ∷ (codes ")", 6) ∷ (codes "+", 7) ∷ (codes "-", 8) ∷ (codes "*", 9) ∷ (codes "/", 10)
     ∷ (codes "**", 11) ∷ (codes "=", 12) ∷ (codes "<>", 13) ∷ (codes "<", 14) ∷ (codes "<=", 15) ∷ (codes ">", 16) ∷ (codes ">=", 17)
     ∷ (codes "&", 18) ∷ (codes ",", 19) ∷ []
 
--- the words, in capitals; a name counts as one in either case
+-- the names that have a type of their own, in capitals, each with its type; a name counts as one in either case
 abbrev pub words : List (Bytes × ℕ)
 words = (codes "AND", 20) ∷ (codes "OR", 21) ∷ (codes "XOR", 22) ∷ (codes "NOT", 23) ∷ (codes "MOD", 24) ∷ []
 
@@ -28,7 +28,7 @@ abbrev pub longest_in : List (Bytes × ℕ) → Bytes → ℕ
 longest_in [] text = 0
 longest_in ((sign, k) ∷ more) text = max (cond (starts_with sign text) (length sign) 0) (longest_in more text)
 
--- a place counted from one byte further left
+-- the number plus one, or none where there is none
 abbrev pub one_more : Option ℕ → Option ℕ
 one_more None = None
 one_more (Some n) = Some (suc n)
@@ -63,7 +63,8 @@ abbrev pub sign_or_byte : ℕ → Front
 sign_or_byte zero = front_is unknown 1
 sign_or_byte (suc n) = front_is sign (suc n)
 
--- what a text of this first byte and these others begins with: the first byte decides which rule applies
+-- what a text of this first byte and these others begins with: a name, a number or blanks by its first byte, else from `(*` on a comment or an unknown, else
+-- the longest sign, else one unknown byte
 abbrev pub front_of : ℕ → Bytes → Front
 front_of b bs =
     let text = b ∷ bs in
@@ -75,7 +76,8 @@ front_of b bs =
 
 -- ── the type and the channel of a lexeme, by its kind and its bytes ──
 
--- a name that is a word has the word's type and any other 1, a sign has its own; docs/TOKENS.md lists the types
+-- the type: a name's is that of the word that it is, in either case, else 1; a number's 2; a sign's its own, and 0 where the list has none; blanks' 25; a
+-- comment's 26; an unknown's 0
 abbrev pub type_of : Kind → Bytes → ℕ
 type_of name part = type_in words (capitals part) 1
 type_of number part = 2
@@ -100,7 +102,7 @@ pub record Part : Type 0 where
   pub kind : Kind
   pub bytes : Bytes
 
--- the front cut off a text
+-- the kind of a front, and as many first bytes of the text as its length says
 abbrev pub cut : Front → Bytes → Part
 cut f text = record { kind = f.kind; bytes = take f.len text }
 
@@ -109,11 +111,11 @@ abbrev pub first_part : Bytes → Option Part
 first_part [] = None
 first_part (b ∷ bs) = Some (cut (front_of b bs) (b ∷ bs))
 
--- the same, but none unless the text begins with `(*`
+-- the comment, or the rest that is never closed, that a text begins with, as kind and bytes; none unless the text begins with `(*`
 abbrev pub comment_part : Bytes → Option Part
 comment_part text = cond (starts_with (codes "(*") text) (Some (cut (comment_or_rest (closing (drop 2 text)) (length text)) text)) None
 
--- what a lexeme of the code stands for
+-- the kind and the bytes of a lexeme of the code
 abbrev pub part_of : Lexeme → Part
 part_of (Name b) = record { kind = name; bytes = b.now }
 part_of (Number b) = record { kind = number; bytes = b.now }

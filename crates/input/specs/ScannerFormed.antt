@@ -15,7 +15,7 @@ abbrev Small : List (Bytes × ℕ) → Type 0
 Small [] = Unit {0}
 Small ((bytes, k) ∷ more) = (nat_le k 65535 ≡ true) × Small more
 
--- the type that such a list gives is at most 65,535, if the type for what is not in it is
+-- the type that a list gives is at most 65,535, if all its types are and the type for what is not in it is
 small_in : (list : List (Bytes × ℕ)) (part : Bytes) (other : ℕ) → Small list → nat_le other 65535 ≡ true → nat_le (type_in list part other) 65535 ≡ true
 small_in [] part other s o = o
 small_in ((bytes, k) ∷ more) part other s o = go (same_bytes bytes part) (small_in more part other s.1 o)

@@ -28,12 +28,12 @@ current_token s = first_of s.ahead s.end
 abbrev pub second_token : Stream → Token
 second_token s = first_of (rest_of s.ahead) s.end
 
--- the first ahead becomes the previous one; with none ahead nothing changes
+-- given the tokens ahead of a stream as a list: the stream after the first of them became the previous one; the same stream where the list is empty
 abbrev pub moved_past : List Token → Stream → Stream
 moved_past [] s = s
 moved_past (t ∷ ts) s = record { previous = Some t; ahead = ts; end = s.end }
 
--- what consume does
+-- the stream after one step, which is what consume does: the first token ahead becomes the previous one; with none ahead nothing changes
 abbrev pub moved : Stream → Stream
 moved s = moved_past s.ahead s
 
@@ -48,7 +48,8 @@ abbrev pub has_place_if_any : Option Token → Bool
 has_place_if_any None = true
 has_place_if_any (Some t) = has_place t
 
--- what an implementation of a stream owes with its meaning, for every value that it can have
+-- the previous token, if there is one, is of the input or the end of one; the tokens ahead are tokens of the input; the end has type −1 and an index
+-- of 0 or more
 pub record WellFormed (s : Stream) : Type 0 where
   pub before : has_place_if_any s.previous ≡ true
   pub inputs : Inputs s.ahead
@@ -61,7 +62,7 @@ pub record Supply : Type 0 where
   pub tokens : List Token
   pub end : Token
 
--- what a source owes with its meaning: tokens of the input, and then an end of one
+-- the tokens that a source has still to give are tokens of the input, and its end has type −1 and an index of 0 or more
 pub record SupplyFormed (s : Supply) : Type 0 where
   pub inputs : Inputs s.tokens
   pub ends : is_input_end s.end ≡ true

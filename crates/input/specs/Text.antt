@@ -4,7 +4,7 @@ use Rattle.input.specs.declared.text.Text.{Text}
 use Rattle.input.specs.declared.text.TextTooLong.{TextTooLong}
 use Rattle.input.specs.Bytes.{Bytes}
 
--- what a text of the code holds
+-- the bytes of a text of the code: the first 65,536 of its slice, or all where there are fewer
 abbrev pub bytes_of : Text → Bytes
 bytes_of t = take 65536 t.bytes.now
 

@@ -18,14 +18,14 @@ abbrev pub is_type : ℤ → Bool
 is_type (pos n) = nat_le n 65535
 is_type (negsuc n) = false
 
--- a token of the input has such a type, and an index of 0 or more; one that was made up has index −1
+-- whether a token is of the input: type 0 to 65,535 and index 0 or more; a token that was made up has index −1
 abbrev pub is_input : Token → Bool
 is_input t = is_type t.ttype && non_neg t.index
 
--- the end of an input has type −1 and an index
+-- whether a token is the end of an input: type −1, index 0 or more
 abbrev pub is_input_end : Token → Bool
 is_input_end t = is_end t && non_neg t.index
 
--- a token of the input, or its end: what a stream may have passed
+-- whether a token is of the input, or is the end of one
 abbrev pub has_place : Token → Bool
 has_place t = is_input t || is_input_end t

@@ -8,7 +8,8 @@ use Rattle.replay.specs.Faults.{bad_line}
 use Rattle.replay.specs.Recordings.{Said, recorded}
 use Rattle.replay.specs.Printed.{line_of, text_printed}
 
--- what is printed for a recording: the tokens of its text, or its first wrong line alone
+-- what is printed for a recording: the tokens of its text (an empty one if there is no text line), or the refusal of a text over 65,536 bytes, or the number
+-- of its first wrong line and what is wrong with it
 abbrev pub answer : Result Said BadLine → Bytes
 answer (Ok s) = text_printed (unwrap_or s.text [])
 answer (Err bad) = line_of (bad_line bad)

@@ -3,7 +3,7 @@ use Rattle.std.specs.Prelude.{◌≡◌, ℕ, ◌<◌, cond, List, [], ◌∷◌
 use Rattle.std.specs.Borrow.{Bor}
 use Rattle.std.specs.List.{flat_map}
 
--- each byte as a number below 256
+-- some bytes as a list of numbers; those of a slice of bytes are below 256, which this type does not say
 abbrev pub Bytes : Type 0
 Bytes = List ℕ
 
@@ -19,7 +19,7 @@ behind mark (b ∷ bs) = cond (b == mark) (Some bs) (behind mark bs)
 
 -- ── reading: \n, \t, \r and \\ are escapes ──
 
--- the byte that a backslash with this byte behind it stands for: n for LF (10), t for a tab (9), r for CR (13), and itself
+-- what a backslash and then this byte stand for: n for an LF (10), t for a tab (9), r for a CR (13), a second backslash (92) for one; none for any other byte
 abbrev pub meant_by : ℕ → Option ℕ
 meant_by b = cond (b == 110) (Some 10) (cond (b == 116) (Some 9) (cond (b == 114) (Some 13) (cond (b == 92) (Some 92) None)))
 
@@ -29,20 +29,22 @@ in_front None more = None
 in_front (Some b) None = None
 in_front (Some b) (Some bs) = Some (b ∷ bs)
 
--- what a text with escapes stands for: none if an escape is unknown, or if a backslash (92) is the last byte
+-- what a text with escapes stands for; none if a backslash (92) that begins an escape is the last byte, or has another byte behind it than n, t, r or a
+-- backslash
 abbrev pub unescaped : Bytes → Option Bytes
 unescaped [] = Some []
 unescaped (b ∷ []) = cond (b == 92) None (Some (b ∷ []))
 unescaped (b ∷ (e ∷ bs)) = cond (b == 92) (in_front (meant_by e) (unescaped bs)) (in_front (Some b) (unescaped (e ∷ bs)))
 
--- the first byte that a text stands for, and what is behind it; none only where the text stands for nothing
+-- none only where the text has a wrong escape; else a byte and a shorter rest, and the text stands for the byte and then what the rest stands for, or has a
+-- wrong escape where the rest has one
 abbrev pub ReadsFirst : Bytes → Option (ℕ × Bor Bytes) → Type 0
 ReadsFirst text None = unescaped text ≡ None
 ReadsFirst text (Some (b, rest)) = (unescaped text ≡ in_front (Some b) (unescaped rest.now)) × (length rest.now < length text)
 
 -- ── writing: only a tab, an LF and a CR change, to \t, \n and \r ──
 
--- what is written for a byte: a backslash (92) and a letter for those three, any other byte itself
+-- what is written for a byte: \t for a tab (9), \n for an LF (10), \r for a CR (13), any other byte itself
 abbrev pub escaped_byte : ℕ → Bytes
 escaped_byte b = cond (b == 9) (92 ∷ 116 ∷ []) (cond (b == 10) (92 ∷ 110 ∷ []) (cond (b == 13) (92 ∷ 114 ∷ []) (b ∷ [])))
 

@@ -40,7 +40,7 @@ keywords =
     ∷ Enter ∷ Recursion ∷ State ∷ Alternative ∷ Extend ∷ GiveUp ∷ Match ∷ Any ∷ Consume ∷ Leave ∷ Unroll
     ∷ Passes ∷ Child ∷ Parent ∷ Nth ∷ Leaf ∷ TextOf ∷ Print ∷ Walk ∷ []
 
--- the first of some keywords that a word is
+-- the first of some keywords that a word is, or none if it is none of them
 abbrev pub keyword_in : List Keyword → Bytes → Option Keyword
 keyword_in [] word = None
 keyword_in (k ∷ ks) word = cond (bytes_eq (name_of k) word) (Some k) (keyword_in ks word)

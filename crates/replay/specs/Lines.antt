@@ -24,7 +24,8 @@ abbrev pub is_comment : Bytes → Bool
 is_comment [] = false
 is_comment (b ∷ bs) = b == 35
 
--- what a line may say
+-- what a line may say: nothing; text, with its escapes unread; rules, with what stands behind the word if there is anything; a keyword that is not read yet;
+-- or a fault
 pub data Saying : Type 0 where
   nothing : Saying
   some_text : Bytes → Saying

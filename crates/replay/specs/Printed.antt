@@ -12,19 +12,19 @@ use Rattle.replay.specs.Bytes.{Bytes, escaped}
 abbrev pub printed : Report → Bytes
 printed r = vec_items r.bytes
 
--- a line ends in an LF (10)
+-- some bytes, and then an LF (10)
 abbrev pub line_of : Bytes → Bytes
 line_of text = text ++ 10 ∷ []
 
 -- ── a token: INDEX TYPE CHANNEL OFFSET LENGTH 'BYTES' ──
 
--- the five numbers and the opening quote
+-- a token's index, type, channel, offset and length in decimal, with a space behind each, and then a quote
 abbrev pub numbers_of : Token → Bytes
 numbers_of t =
     signed_decimal t.index ++ (codes " " ++ (signed_decimal t.ttype ++ (codes " " ++ (decimal t.channel ++ (codes " " ++ (decimal t.offset ++ (codes " " ++ (decimal t.len
     ++ codes " '"))))))))
 
--- the numbers, then the bytes between quotes
+-- a token's line: its numbers, then these bytes with escapes between quotes, and an LF
 abbrev pub token_line : Token → Bytes → Bytes
 token_line t part = numbers_of t ++ (escaped part ++ line_of (codes "'"))
 
@@ -48,7 +48,7 @@ is_zero (negsuc n) = false
 abbrev pub is_visible : Token → Bool
 is_visible t = t.channel == 0
 
--- whether a token is on another channel
+-- whether a token is on a channel other than 0
 abbrev pub is_hidden : Token → Bool
 is_hidden t = not (is_visible t)
 
@@ -60,17 +60,17 @@ is_unknown t = is_zero t.ttype
 abbrev pub tally_of : List Token → Tally
 tally_of ts = record { visible = count_by is_visible ts; hidden = count_by is_hidden ts; unknown = count_by is_unknown ts }
 
--- the same numbers with one token more
+-- a tally after one more token was counted
 abbrev pub counted : Tally → Token → Tally
 counted n t = record { visible = n.visible + cond (is_visible t) 1 0; hidden = n.hidden + cond (is_hidden t) 1 0; unknown = n.unknown + cond (is_unknown t) 1 0 }
 
--- each number is at most what a text can have
+-- each of a tally's three numbers is at most 65,536
 pub record Few (n : Tally) : Type 0 where
   pub visible : n.visible ≤ 65536
   pub hidden : n.hidden ≤ 65536
   pub unknown : n.unknown ≤ 65536
 
--- the last line: the numbers in words
+-- `N tokens, V on channel 0, H on channel 1, U unknown` without an LF, each number in decimal, where N is V + H
 abbrev pub tally_line : Tally → Bytes
 tally_line t =
     decimal (t.visible + t.hidden) ++ (codes " tokens, " ++ (decimal t.visible ++ (codes " on channel 0, " ++ (decimal t.hidden ++ (codes " on channel 1, "
@@ -82,13 +82,14 @@ tally_line t =
 abbrev pub end_of : Bytes → Token
 end_of text = end_at (length (scanned text)) (length text)
 
--- the lines of the tokens and of the end were printed, and the tokens were counted
+-- behind what was printed before stand the lines of the text's tokens and of its end; the tally has counted these tokens, and each of its numbers is at
+-- most 65,536
 pub record Listed (text before after : Bytes) (tally : Tally) : Type 0 where
   pub lines : after ≡ before ++ (token_lines text (scanned text) ++ token_line (end_of text) [])
   pub counts : tally ≡ tally_of (scanned text)
   pub few : Few tally
 
--- the heading, a line for each token and for the end, and the last line
+-- all that is printed for a text: the line `tokens`, a line for each token and for the end, and the line of the tally
 abbrev pub tokens_printed : Bytes → Bytes
 tokens_printed text =
     line_of (codes "tokens") ++ ((token_lines text (scanned text) ++ token_line (end_of text) []) ++ line_of (tally_line (tally_of (scanned text))))

@@ -22,7 +22,7 @@ abbrev pub lines : Bytes → List Bytes
 lines [] = []
 lines (b ∷ bs) = cond (b == 10) ([] ∷ lines bs) (onto b (lines bs))
 
--- the words that single spaces (32) separate
+-- the pieces between spaces (32), one more than there are spaces, of which any may be empty
 abbrev pub words : Bytes → List Bytes
 words [] = [] ∷ []
 words (b ∷ bs) = cond (b == 32) ([] ∷ words bs) (onto b (words bs))
@@ -35,12 +35,13 @@ none_empty [] = true
 none_empty ([] ∷ more) = false
 none_empty ((b ∷ bs) ∷ more) = none_empty more
 
--- the words of some bytes; none at all where no bytes stand behind the keyword
+-- the words of some bytes (of none, one empty word); no words where there is nothing to cut
 abbrev pub words_if_any : Option Bytes → List Bytes
 words_if_any None = []
 words_if_any (Some bytes) = words bytes
 
--- the names in some bytes, refused where two spaces, or one at an end, leave an empty name
+-- the words of some bytes as names, refused if any is empty, as where there are no bytes, two spaces together or a space at an end; no names where there is
+-- nothing to cut
 abbrev pub names : Option Bytes → Result (List Bytes) Fault
 names bytes = cond (none_empty (words_if_any bytes)) (Ok (words_if_any bytes)) (Err EmptyName)
 
@@ -110,7 +111,7 @@ UnlessMemory EmptyName P = P
 UnlessMemory UnknownEscape P = P
 UnlessMemory Memory P = Unit {0}
 
--- a call gives what is meant, by the value that its result stands for, or finds no memory
+-- what a call answers stands for the value that is meant, or is the fault that is meant, or is want of memory, whatever is meant
 abbrev pub Gives : {X Y : Type 0} → (Y → X) → Result X Fault → Result Y Fault → Type 0
 Gives value meant (Ok y) = meant ≡ Ok (value y)
 Gives value meant (Err fault) = UnlessMemory fault (meant ≡ Err fault)

@@ -10,10 +10,11 @@ lent s = s.items.now
 abbrev pub room : {T : Type 0} → Stack T → ℕ
 room s = length (lent s)
 
--- the elements, the last pushed first
+-- the first `count` of the lent places, or all where there are fewer, the other way round: the element pushed last stands first
 abbrev pub contents : {T : Type 0} → Stack T → List T
 contents s = reverse (take s.count (lent s))
 
--- the name that the logic has for the slice that was lent: where it stays the same, the lender knows what the slice holds once the stack is gone
+-- the number by which the logic knows the borrow of the lent slice: while it stays the same, what stands in the places when the stack is gone is what the
+-- lender finds in the slice
 abbrev pub lender : {T : Type 0} → Stack T → ℕ
 lender s = s.items.ghost_name
