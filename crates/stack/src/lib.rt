@@ -1,16 +1,15 @@
 // A stack over a slice that the caller lends: it allocates nothing, and refuses an element that it has no place for.
 #![tactic(auto)]
 
-ghost use Rattle.std.specs.Prelude.{◌≡◌, ◌-◌, ◌≤◌, [], ◌∷◌, reverse, length, is_ok, MatchBool, MatchResult, ◌==◌, nat_lt, slice_set};
-ghost use Rattle.stack.specs.Contents.{contents, lender, lent, room};
-ghost use Rattle.std.specs.List.{slice_get};
-ghost use mathlib.Core.List.{tail};
+ghost use Rattle.std.specs.Prelude.{◌≡◌, ◌-◌, ◌<◌, ◌≤◌, ◌↔◌, [], ◌∷◌, reverse, length, drop, slice_get, slice_set, IsOk, IsTrue, OnOk, OnErr, ◌==◌};
+ghost use Rattle.std.specs.Bool.{OnTrue, OnFalse};
 
 // The first `count` of `items` are the elements, in the order in which they were pushed. The other places are free.
 #[derive(Drop)]
 pub struct Stack<'a, T> {
     items: &'a mut [T],
     count: usize,
+    ghost within: { count ≤ length items.now },
 }
 
 // Every place is taken.
@@ -18,6 +17,8 @@ pub struct Stack<'a, T> {
 pub struct Full;
 
 impl<'a, T: Copy> Stack<'a, T> {
+    ghost use Rattle.stack.specs.Contents.{SamePlaces, contents, lender, lent, room};
+
     // An empty stack with a place for each element of `items`.
     pub fn new(items: &'a mut [T]) -> Stack<'a, T>
         ensures contents { contents result ≡ [] }
@@ -28,12 +29,12 @@ impl<'a, T: Copy> Stack<'a, T> {
         Stack { items, count: 0 }
     }
 
-    // How many elements there are. No fact ties `count` to the slice, so the smaller of the two numbers counts.
+    // How many elements there are.
     pub fn len(&self) -> usize
         ensures value { result ≡ length (contents self.now) }
         ensures bound { result ≤ room self.now }
     {
-        self.count.min(self.items.len())
+        self.count // no more than the places, by `within`
     }
 
     pub fn is_empty(&self) -> bool
@@ -53,7 +54,7 @@ impl<'a, T: Copy> Stack<'a, T> {
     fn pushed(&self) -> &[T]
         ensures { result.now ≡ reverse (contents self.now) }
     {
-        &self.items[0..self.len()]
+        &self.items[..self.count]
     }
 
     // The last element pushed.
@@ -72,15 +73,16 @@ impl<'a, T: Copy> Stack<'a, T> {
 
     // Adds `x`, or refuses it and changes nothing where every place is taken.
     pub fn push(&mut self, x: T) -> Result<(), Full>
-        ensures test { is_ok result ≡ nat_lt (length (contents self.old)) (room self.old) }
-        ensures contents { MatchResult result (λ _. contents self.new ≡ x ∷ contents self.old) (λ _. self.new ≡ self.old) }
-        ensures lent { MatchResult result (λ _. lent self.new ≡ slice_set (lent self.old) (length (contents self.old)) x) (λ _. lent self.new ≡ lent self.old) }
-        ensures room { room self.new ≡ room self.old }
-        ensures lender { lender self.new ≡ lender self.old }
+        ensures test { IsOk result ↔ (length (contents self.old) < room self.old) }
+        ensures contents { OnOk result (contents self.new ≡ x ∷ contents self.old) }
+        ensures lent { OnOk result (lent self.new ≡ slice_set (lent self.old) (length (contents self.old)) x) }
+        ensures refused { OnErr result (self.new ≡ self.old) }
+        ensures places { SamePlaces self.old self.new }
     {
-        if self.count >= self.items.len() {
+        if self.count == self.items.len() {
             return Err(Full);
         }
+        // By index, since std does not say what a slice holds after its `get_mut`.
         self.items[self.count] = x;
         self.count += 1;
         Ok(())
@@ -89,29 +91,28 @@ impl<'a, T: Copy> Stack<'a, T> {
     // Removes the last element pushed, and returns it.
     pub fn pop(&mut self) -> Option<T>
         ensures value { result ≡ slice_get (contents self.old) 0 }
-        ensures contents { contents self.new ≡ tail (contents self.old) }
+        ensures contents { contents self.new ≡ drop 1 (contents self.old) }
         ensures lent { lent self.new ≡ lent self.old }
-        ensures room { room self.new ≡ room self.old }
-        ensures lender { lender self.new ≡ lender self.old }
+        ensures places { SamePlaces self.old self.new }
     {
         let last = self.last()?;
-        self.count = self.len() - 1;
+        self.count -= 1;
         Some(last)
     }
 
     // Puts `x` in the place of the last element pushed. Where there is none, changes nothing and returns false.
     pub fn set_last(&mut self, x: T) -> bool
-        ensures test { result ≡ nat_lt 0 (length (contents self.old)) }
+        ensures test { IsTrue result ↔ (0 < length (contents self.old)) }
         ensures contents { contents self.new ≡ slice_set (contents self.old) 0 x }
-        ensures lent { MatchBool result (lent self.new ≡ slice_set (lent self.old) (length (contents self.old) - 1) x) (self.new ≡ self.old) }
-        ensures room { room self.new ≡ room self.old }
-        ensures lender { lender self.new ≡ lender self.old }
+        ensures lent { OnTrue result (lent self.new ≡ slice_set (lent self.old) (length (contents self.old) - 1) x) }
+        ensures refused { OnFalse result (self.new ≡ self.old) }
+        ensures places { SamePlaces self.old self.new }
     {
-        let n = self.len();
-        if n == 0 {
+        if self.is_empty() {
             return false;
         }
-        self.items[n - 1] = x;
+        // By index, since after the `last_mut` of a part of a slice only the length of that part is known.
+        self.items[self.count - 1] = x;
         true
     }
 }
