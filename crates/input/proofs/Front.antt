@@ -1,7 +1,7 @@
 -- What stands at the front of a text, case by case.
-use Rattle.std.proofs.Common.{◌≡◌, ℕ, zero, suc, ◌+◌, ◌-◌, ◌≤◌, Bool, true, false, cond, ◌&&◌, eqb, List, [], ◌∷◌, length, get_or, take, drop, IfSome, Some, None, codes, Option, sym, refl, ap, ◌∙◌, subst, subst₂, arith}
+use Rattle.std.proofs.Common.{◌≡◌, ℕ, zero, suc, ◌+◌, ◌-◌, ◌<◌, ◌≤◌, Bool, true, false, cond, ◌&&◌, eqb, List, [], ◌∷◌, length, get_or, take, drop, IfSome, Some, None, codes, Option, sym, refl, ap, ◌∙◌, subst, subst₂, arith}
 use Rattle.std.proofs.lemmas.List.{take_rest, length-drop}
-use Rattle.std.proofs.lemmas.List.Sums.{prefix_len-le-length}
+use Rattle.std.proofs.lemmas.List.Sums.{prefix_len_is, prefix_len-le-length}
 use Rattle.std.proofs.lemmas.Bool.{cond-false, cond_both, and_parts, or_left, false≢true}
 use Rattle.std.specs.List.{prefix_len}
 use Rattle.input.specs.Bytes.{Bytes, begins_name, is_in_name, is_digit, is_blank, starts_with}
@@ -23,6 +23,12 @@ comment_front (a ∷ b ∷ bs) o l p q e =
 none_else : (t : Bool) (x : Part) → None ≡ cond t (Some x) None → t ≡ false
 none_else true x e = let z : ◌≡◌ {A = ℕ} 0 1 = cc in absurd (omega arith)
 none_else false x e = refl
+
+-- a part at the front whose bytes pass a test, as the byte behind them does not
+pub run_is : (test : ℕ → Bool) (text part : Bytes) → (length part ≤ length text) × (part ≡ take (length part) text)
+    → ((i : ℕ) → i < length part → test (get_or text i 0) ≡ true) → (length part < length text → test (get_or text (length part) 0) ≡ false)
+    → part ≡ take (prefix_len test text) text
+run_is test text part front passing stops = front.1 ∙ ap (λ (n : ℕ). take n text) (sym (prefix_len_is test text (length part) 0 front.0 passing stops))
 
 -- neither a name nor a number, blanks or a comment: a sign or a byte
 pub sign_front : (text : Bytes) → 1 ≤ length text

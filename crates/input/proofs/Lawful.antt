@@ -1,5 +1,5 @@
 -- The tokens of a text obey the law of scanning.
-use Rattle.std.proofs.Common.{◌≡◌, ℕ, zero, suc, ◌+◌, ◌<◌, ◌≤◌, List, [], ◌∷◌, ◌++◌, length, take, drop, pos, sym, refl, ap, ◌∙◌, subst₂, arith, take-append-drop}
+use Rattle.std.proofs.Common.{◌≡◌, ℕ, zero, suc, ◌+◌, ◌<◌, ◌≤◌, List, [], ◌∷◌, ◌++◌, length, take, drop, pos, sym, refl, ap, ◌∙◌, subst, subst₂, arith, take-append-drop}
 use Rattle.std.proofs.lemmas.List.{length-drop, drop-drop}
 use Rattle.std.specs.List.{flat_map, AllByRecursion}
 use Rattle.input.specs.declared.token.Token.{Token}
@@ -55,7 +55,7 @@ scans_within (suc more) index offset text (b ∷ bs) e l m =
       );
     }
 
-pub scans : (text : Bytes) → Scans text (scanned text)
-scans text =
+pub scans : (text : Bytes) (ts : List Token) → ts ≡ scanned text → Scans text ts
+scans text ts is =
     let s = scans_within (length text) 0 0 text text refl (omega arith) (omega arith) in
-    record { whole = s.whole; some = s.some; within = s.within; placed = s.placed; counted = s.counted; by_rule = s.by_rule }
+    subst (Scans text) (sym is) (record { whole = s.whole; some = s.some; within = s.within; placed = s.placed; counted = s.counted; by_rule = s.by_rule })

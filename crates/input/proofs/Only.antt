@@ -5,14 +5,16 @@ use Rattle.std.proofs.lemmas.Bool.{cond-true, cond-false, and_parts, not-true}
 use Rattle.std.proofs.lemmas.Bool.Decides.{nat_tests}
 use Rattle.std.specs.List.{flat_map, prefix_len}
 use Rattle.input.specs.declared.token.Token.{Token}
-use Rattle.input.specs.Bytes.{Bytes, begins_name, is_in_name, is_digit, is_blank, starts_with, same_bytes}
+use Rattle.std.proofs.lemmas.Slice.Eq.{bytes_eq-Decides}
+use Rattle.std.specs.Str.{bytes_eq}
+use Rattle.input.specs.Bytes.{Bytes, begins_name, is_in_name, is_digit, is_blank, starts_with}
 use Rattle.input.specs.Lexemes.{Kind, Front, Part, name, number, sign, blank, comment, unknown, front_is, signs, type_in, longest_in, closing, comment_or_rest, sign_or_byte, front_of, cut, first_part, type_of, channel_of}
 use Rattle.input.specs.Scanned.{token_of, scanned_from, scanned}
 use Rattle.input.specs.Law.{Run, IsSign, NoLongerSign, FirstClosing, NoClosing, Reads, bytes_at, behind, Scans}
 use Rattle.input.proofs.Front.{longest_within}
 use Rattle.input.proofs.Lawful.{ScansFrom}
 use Rattle.input.proofs.Scanning.{reads_one}
-use Rattle.input.proofs.Rules.{starts, same_is, longest_is, longest_most, signs_typed, found_by, Closed, closed_at}
+use Rattle.input.proofs.Rules.{starts, longest_is, longest_most, signs_typed, found_by, Closed, closed_at}
 
 -- ── the classes of bytes are apart ──
 
@@ -47,13 +49,13 @@ all_bare ((s, k) ∷ more) = bare s && all_bare more
 entry_bare : (list : List (Bytes × ℕ)) (part : Bytes) → all_bare list ≡ true → 0 < type_in list part 0 → bare part ≡ true
 unfolding all_bare
 entry_bare [] part a l = absurd (omega arith)
-entry_bare ((s, k) ∷ more) part a l = go (same_bytes s part) refl (entry_bare more part a'.1)
+entry_bare ((s, k) ∷ more) part a l = go (bytes_eq s part) refl (entry_bare more part a'.1)
   where
     a' : (bare s ≡ true) × (all_bare more ≡ true)
     a' = and_parts (bare s) (all_bare more) a
 
-    go : (b : Bool) → same_bytes s part ≡ b → (0 < type_in more part 0 → bare part ≡ true) → bare part ≡ true
-    go true e ih = ap bare (sym (same_is s part e)) ∙ a'.0
+    go : (b : Bool) → bytes_eq s part ≡ b → (0 < type_in more part 0 → bare part ≡ true) → bare part ≡ true
+    go true e ih = ap bare (sym ((bytes_eq-Decides s part).0 e)) ∙ a'.0
     go false e ih = ih (subst (λ (x : Bool). 0 < cond x k (type_in more part 0)) e l)
 
 sign_bare : (part : Bytes) → IsSign part → bare part ≡ true

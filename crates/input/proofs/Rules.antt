@@ -3,7 +3,9 @@ use Rattle.std.proofs.Common.{◌≡◌, ℕ, zero, suc, ◌+◌, ◌<◌, ◌�
 use Rattle.std.proofs.lemmas.List.{take_all, take_at, drop_all, length-take-le}
 use Rattle.std.proofs.lemmas.Bool.{cond_both, and_parts, and_from, eqb-true, eq-eqb, false≢true, both_ways, cases_lt, ltb-true, or_left}
 use Rattle.std.specs.List.{prefix_len, AllByRecursion}
-use Rattle.input.specs.Bytes.{Bytes, begins_name, is_in_name, is_digit, is_blank, starts_with, same_bytes}
+use Rattle.std.proofs.lemmas.Slice.Eq.{bytes_eq-Decides}
+use Rattle.std.specs.Str.{bytes_eq}
+use Rattle.input.specs.Bytes.{Bytes, begins_name, is_in_name, is_digit, is_blank, starts_with}
 use Rattle.input.specs.Lexemes.{Front, sign, signs, type_in, longest_in, one_more, closing, comment_or_rest, sign_or_byte, front_of}
 use Rattle.input.proofs.Front.{longest_within, leading_some}
 use Rattle.input.specs.Law.{Begins, Run, IsSign, FirstClosing, NoClosing, Reads}
@@ -39,20 +41,6 @@ pub starts_front : (ws rest : Bytes) → starts_with ws (ws ++ rest) ≡ true
 starts_front [] rest = refl
 starts_front (w ∷ ws) rest = and_from _ _ (eq-eqb w w refl) (starts_front ws rest)
 
-pub same_is : (ws bs : Bytes) → same_bytes ws bs ≡ true → ws ≡ bs
-same_is [] [] e = refl
-same_is [] (b ∷ bs) e = absurd (false≢true e)
-same_is (w ∷ ws) [] e = absurd (false≢true e)
-same_is (w ∷ ws) (b ∷ bs) e =
-    let p = and_parts (eqb w b) (same_bytes ws bs) e in
-    let one = eqb-true w b p.0 in
-    let more = same_is ws bs p.1 in
-    cc
-
-pub is_same : (ws : Bytes) → same_bytes ws ws ≡ true
-is_same [] = refl
-is_same (w ∷ ws) = and_from _ _ (eq-eqb w w refl) (is_same ws)
-
 -- ── signs ──
 
 -- the types of a list are above 0
@@ -67,7 +55,7 @@ pub longest_is : (list : List (Bytes × ℕ)) (text : Bytes) → Typed list → 
     → 0 < type_in list (take (longest_in list text) text) 0
 longest_is [] text t l = absurd (omega arith)
 longest_is ((s, k) ∷ more) text t l =
-    cond_both (same_bytes s (take m text)) k (type_in more (take m text) 0) (λ x. 0 < x) (λ e. t.0)
+    cond_both (bytes_eq s (take m text)) k (type_in more (take m text) 0) (λ x. 0 < x) (λ e. t.0)
     (λ e. other (starts_with s text) refl e (λ h. longest_is more text t.1 h))
   where
     m : ℕ
@@ -79,13 +67,13 @@ longest_is ((s, k) ∷ more) text t l =
         let same : longest_in more text ≡ m = omega arith in
         subst (λ (n : ℕ). 0 < type_in more (take n text) 0) same (ih (omega arith))
 
-    other : (b : Bool) → starts_with s text ≡ b → same_bytes s (take m text) ≡ false
+    other : (b : Bool) → starts_with s text ≡ b → bytes_eq s (take m text) ≡ false
         → (0 < longest_in more text → 0 < type_in more (take (longest_in more text) text) 0) → 0 < type_in more (take m text) 0
     other true st e ih =
         let long : cond (starts_with s text) (length s) 0 ≡ length s = ap (λ (x : Bool). cond x (length s) 0) st in
         ⊎_elim
         (λ h. let same : m ≡ length s = omega arith in
-        absurd (both_ways _ e (ap (λ (n : ℕ). same_bytes s (take n text)) same ∙ ap (same_bytes s) (take_starts s text st) ∙ is_same s)))
+        absurd (both_ways _ e (ap (λ (n : ℕ). bytes_eq s (take n text)) same ∙ ap (bytes_eq s) (take_starts s text st) ∙ (bytes_eq-Decides s s).1 refl)))
         (λ h. by_more h ih) (cases_lt (longest_in more text) (cond (starts_with s text) (length s) 0))
     other false st e ih =
         let none : cond (starts_with s text) (length s) 0 ≡ 0 = ap (λ (x : Bool). cond x (length s) 0) st in
@@ -94,15 +82,15 @@ longest_is ((s, k) ∷ more) text t l =
 -- no entry that the text begins with is longer
 pub longest_most : (list : List (Bytes × ℕ)) (part rest : Bytes) → 0 < type_in list part 0 → length part ≤ longest_in list (part ++ rest)
 longest_most [] part rest l = absurd (omega arith)
-longest_most ((s, k) ∷ more) part rest l = go (same_bytes s part) refl (longest_most more part rest)
+longest_most ((s, k) ∷ more) part rest l = go (bytes_eq s part) refl (longest_most more part rest)
   where
     text : Bytes
     text = part ++ rest
 
-    go : (b : Bool) → same_bytes s part ≡ b → (0 < type_in more part 0 → length part ≤ longest_in more text)
+    go : (b : Bool) → bytes_eq s part ≡ b → (0 < type_in more part 0 → length part ≤ longest_in more text)
         → length part ≤ max (cond (starts_with s text) (length s) 0) (longest_in more text)
     go true e ih =
-        let same = same_is s part e in
+        let same = (bytes_eq-Decides s part).0 e in
         let st : starts_with s text ≡ true = ap (λ (ws : Bytes). starts_with ws text) same ∙ starts_front part rest in
         let long : cond (starts_with s text) (length s) 0 ≡ length s = ap (λ (x : Bool). cond x (length s) 0) st in
         omega (arith, ap length same)

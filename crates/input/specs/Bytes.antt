@@ -31,10 +31,3 @@ abbrev pub starts_with : Bytes → Bytes → Bool
 starts_with [] text = true
 starts_with (w ∷ ws) [] = false
 starts_with (w ∷ ws) (b ∷ bs) = w == b && starts_with ws bs
-
--- whether two texts are equal
-abbrev pub same_bytes : Bytes → Bytes → Bool
-same_bytes [] [] = true
-same_bytes [] (b ∷ bs) = false
-same_bytes (w ∷ ws) [] = false
-same_bytes (w ∷ ws) (b ∷ bs) = w == b && same_bytes ws bs

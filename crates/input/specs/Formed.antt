@@ -6,7 +6,6 @@ use Rattle.input.specs.declared.lookahead.Lookahead.{Lookahead}
 use Rattle.input.specs.declared.lookahead.Held.{Held}
 use Rattle.input.specs.declared.lookahead.Held.TheVariants.{Two, One, Nothing}
 use Rattle.input.specs.declared.channel_filter.Visible.{Visible}
-use Rattle.input.specs.declared.channel_filter.ChannelFilter.{ChannelFilter}
 use Rattle.input.specs.Tokens.{is_input_end}
 use Rattle.input.specs.Streams.{Stream, WellFormed, Supply, SupplyFormed, Inputs}
 use Rattle.input.specs.Held.{held_formed, held_tokens, held_end}
@@ -47,7 +46,7 @@ pub visible_formed : (s : Stream) → WellFormed s → SupplyFormed (visible s)
 visible_formed s f = record { inputs = every_visible s.ahead f.inputs; ends = f.ends }
 
 -- a filter over well-formed streams is well formed
-pub filter_formed : {S : Type 0} (meaning : S → Stream) → ((s : S) → WellFormed (meaning s)) → (f : ChannelFilter S) → WellFormed (filter_stream meaning f)
+pub filter_formed : {S : Type 0} (meaning : S → Stream) → ((s : S) → WellFormed (meaning s)) → (f : Lookahead (Visible S)) → WellFormed (filter_stream meaning f)
 filter_formed {S} meaning formed f =
-    let source = f.tokens.source.stream in
-    stream_formed (λ (v : Visible S). visible (meaning v.stream)) f.tokens (visible_formed (meaning source) (formed source))
+    let source = f.source.stream in
+    stream_formed (λ (v : Visible S). visible (meaning v.stream)) f (visible_formed (meaning source) (formed source))

@@ -1,9 +1,10 @@
 -- The token rules: what may stand at the front of a text, how far it goes, and which type it has.
-use Rattle.std.specs.Prelude.{ℕ, zero, suc, ◌+◌, max, cond, List, [], ◌∷◌, length, take, drop, Some, None, codes, Option}
+use Rattle.std.specs.Prelude.{ℕ, zero, suc, ◌+◌, max, cond, List, [], ◌∷◌, length, take, drop, Some, None, codes, Option, ◌==◌}
 use Rattle.std.specs.List.{prefix_len}
 use Rattle.input.specs.declared.lexeme.Lexeme.{Lexeme}
 use Rattle.input.specs.declared.lexeme.Lexeme.TheVariants.{Name, Number, Sign, Blank, Comment, Unknown}
-use Rattle.input.specs.Bytes.{Bytes, is_digit, begins_name, is_in_name, is_blank, capitals, starts_with, same_bytes}
+use Rattle.std.specs.Str.{bytes_eq}
+use Rattle.input.specs.Bytes.{Bytes, is_digit, begins_name, is_in_name, is_blank, capitals, starts_with}
 
 -- ── the signs and the words, each with its type ──
 
@@ -21,7 +22,7 @@ words = (codes "AND", 20) ∷ (codes "OR", 21) ∷ (codes "XOR", 22) ∷ (codes 
 -- the type that a list gives to these bytes, or another where they are not in it
 abbrev pub type_in : List (Bytes × ℕ) → Bytes → ℕ → ℕ
 type_in [] part other = other
-type_in ((bytes, k) ∷ more) part other = cond (same_bytes bytes part) k (type_in more part other)
+type_in ((bytes, k) ∷ more) part other = cond (bytes_eq bytes part) k (type_in more part other)
 
 -- the length of the longest sign that a text begins with, or 0
 abbrev pub longest_in : List (Bytes × ℕ) → Bytes → ℕ
@@ -114,6 +115,10 @@ first_part (b ∷ bs) = Some (cut (front_of b bs) (b ∷ bs))
 -- the comment, or the rest that is never closed, that a text begins with, as kind and bytes; none unless the text begins with `(*`
 abbrev pub comment_part : Bytes → Option Part
 comment_part text = cond (starts_with (codes "(*") text) (Some (cut (comment_or_rest (closing (drop 2 text)) (length text)) text)) None
+
+-- the longest sign that a text begins with, as kind and bytes; none where no sign fits
+abbrev pub sign_part : Bytes → Option Part
+sign_part text = cond (longest_in signs text == 0) None (Some (cut (front_is sign (longest_in signs text)) text))
 
 -- the kind and the bytes of a lexeme of the code
 abbrev pub part_of : Lexeme → Part

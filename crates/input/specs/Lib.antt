@@ -4,6 +4,7 @@ pub mod Streams
 pub mod Filter
 pub mod Bytes
 pub mod Text
+pub mod TokenTypes
 pub mod Lexemes
 pub mod Scanned
 pub mod Law

@@ -1,7 +1,7 @@
 -- What a scanner of the code means.
 use Rattle.std.specs.Prelude.{◌+◌, length}
 use Rattle.input.specs.declared.scanner.Cursor.{Cursor}
-use Rattle.input.specs.declared.scanner.Scanner.{Scanner}
+use Rattle.input.specs.declared.lookahead.Lookahead.{Lookahead}
 use Rattle.input.specs.Streams.{Stream, Supply}
 use Rattle.input.specs.Lookahead.{stream}
 use Rattle.input.specs.Scanned.{scanned_from, end_at}
@@ -13,5 +13,5 @@ still_to_scan c =
     record { tokens = tokens; end = end_at (c.index + length tokens) (c.offset + length c.rest.now) }
 
 -- the stream that a scanner is: previous is what was consumed last; ahead are the tokens held and, only if two are held, those still to be scanned
-abbrev pub scanner_stream : Scanner → Stream
-scanner_stream s = stream still_to_scan s.tokens
+abbrev pub scanner_stream : Lookahead Cursor → Stream
+scanner_stream s = stream still_to_scan s

@@ -2,8 +2,9 @@
 use Rattle.std.specs.Prelude.{◌≡◌, ℕ, zero, suc, ◌+◌, Bool, true, false, cond, List, [], ◌∷◌, length, take, drop, nat_le, refl}
 use Rattle.std.proofs.lemmas.Bool.{and_from}
 use Rattle.input.specs.declared.scanner.Cursor.{Cursor}
-use Rattle.input.specs.declared.scanner.Scanner.{Scanner}
-use Rattle.input.specs.Bytes.{Bytes, capitals, same_bytes}
+use Rattle.input.specs.declared.lookahead.Lookahead.{Lookahead}
+use Rattle.std.specs.Str.{bytes_eq}
+use Rattle.input.specs.Bytes.{Bytes, capitals}
 use Rattle.input.specs.Streams.{WellFormed, SupplyFormed, Inputs}
 use Rattle.input.specs.Lexemes.{Kind, name, number, sign, blank, comment, unknown, signs, words, type_in, type_of, front_of}
 use Rattle.input.specs.Scanned.{scanned_within}
@@ -18,7 +19,7 @@ Small ((bytes, k) ∷ more) = (nat_le k 65535 ≡ true) × Small more
 -- the type that a list gives is at most 65,535, if all its types are and the type for what is not in it is
 small_in : (list : List (Bytes × ℕ)) (part : Bytes) (other : ℕ) → Small list → nat_le other 65535 ≡ true → nat_le (type_in list part other) 65535 ≡ true
 small_in [] part other s o = o
-small_in ((bytes, k) ∷ more) part other s o = go (same_bytes bytes part) (small_in more part other s.1 o)
+small_in ((bytes, k) ∷ more) part other s o = go (bytes_eq bytes part) (small_in more part other s.1 o)
   where
     go : (b : Bool) → nat_le (type_in more part other) 65535 ≡ true → nat_le (cond b k (type_in more part other)) 65535 ≡ true
     go true e = s.0
@@ -54,5 +55,5 @@ pub still_formed : (c : Cursor) → SupplyFormed (still_to_scan c)
 still_formed c = record { inputs = inputs (length c.rest.now) c.index c.offset c.rest.now; ends = refl }
 
 -- a scanner is a well-formed stream
-pub scanner_formed : (s : Scanner) → WellFormed (scanner_stream s)
-scanner_formed s = stream_formed still_to_scan s.tokens (still_formed s.tokens.source)
+pub scanner_formed : (s : Lookahead Cursor) → WellFormed (scanner_stream s)
+scanner_formed s = stream_formed still_to_scan s (still_formed s.source)

@@ -21,7 +21,7 @@ impl<S: TokenStream> TokenSource for Visible<S> {
 
     fn next_token(&mut self) -> Token {
         let mut token = self.stream.current();
-        while token.channel != 0 && !token.is_end() {
+        while token.channel != Token::DEFAULT_CHANNEL && !token.is_end() {
             self.stream.consume();
             token = self.stream.current();
         }
@@ -31,40 +31,13 @@ impl<S: TokenStream> TokenSource for Visible<S> {
 }
 
 // A stream over any stream: its tokens on channel 0.
-#[derive(Drop)]
-pub struct ChannelFilter<S> {
-    tokens: Lookahead<Visible<S>>,
-}
+pub type ChannelFilter<S> = Lookahead<Visible<S>>;
 
-impl<S: TokenStream> ChannelFilter<S> {
+impl<S: TokenStream> Lookahead<Visible<S>> {
     // At opening no token is previous, whatever the stream's own was.
     pub fn new(stream: S) -> ChannelFilter<S>
         ensures { filter_stream S.TokenStream.meaning result ≡ filtered (S.TokenStream.meaning stream) }
     {
-        ChannelFilter {
-            tokens: Lookahead::open(Visible { stream }),
-        }
-    }
-}
-
-impl<S: TokenStream> TokenStream for ChannelFilter<S> {
-    ghost meaning = { filter_stream S.TokenStream.meaning };
-
-    ghost formed = { filter_formed S.TokenStream.meaning S.TokenStream.formed };
-
-    fn current(&self) -> Token {
-        self.tokens.current()
-    }
-
-    fn second(&self) -> Token {
-        self.tokens.second()
-    }
-
-    fn previous(&self) -> Option<Token> {
-        self.tokens.previous()
-    }
-
-    fn consume(&mut self) {
-        self.tokens.consume()
+        Lookahead::open(Visible { stream })
     }
 }

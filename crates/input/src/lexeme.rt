@@ -1,9 +1,14 @@
 // What stands at the front of a text.
-ghost use Rattle.std.specs.Prelude.{◌≡◌, ℕ, ◌≤◌, Bool, length, IfSome};
+ghost use Rattle.std.specs.Prelude.{◌≡◌, ℕ, ◌≤◌, ◌<◌, true, false, length, take, slice_index, IfSome};
 ghost use Rattle.std.specs.Option.{option_map};
 ghost use Rattle.std.specs.List.{prefix_len};
+ghost use Rattle.std.specs.Str.{bytes_eq};
 ghost use Rattle.input.specs.Bytes.{is_digit, begins_name, is_in_name, is_blank, capitals};
-ghost use Rattle.input.specs.Lexemes.{signs, words, type_in, longest_in, closing, part_of, first_part, comment_part, cut, sign_or_byte, type_of, channel_of};
+ghost use Rattle.input.specs.TokenTypes.{number_of};
+ghost use Rattle.input.specs.Lexemes.{signs, words, type_in, longest_in, closing, part_of, first_part, comment_part, sign_part, cut, sign_or_byte, type_of, channel_of};
+
+use crate::token::Token;
+use crate::token_type::TokenType;
 
 // A lexeme, with its bytes as a part of the text.
 #[derive(Clone, Copy, Drop)]
@@ -16,60 +21,33 @@ pub enum Lexeme<'a> {
     Unknown(&'a [u8]),
 }
 
-// A class of bytes that a run is made of.
-trait ByteClass {
-    ghost passes: { ℕ → Bool };
-
-    fn has(b: u8) -> bool
-        ensures { result ≡ passes b };
-}
-
-struct Digit;
-
-struct InName;
-
-struct Blank;
-
-impl ByteClass for Digit {
-    ghost passes = { is_digit };
-
-    fn has(b: u8) -> bool {
-        b.is_ascii_digit()
-    }
-}
-
 fn begins_name(b: u8) -> bool
     ensures { result ≡ begins_name b }
 {
     b.is_ascii_alphabetic() || b == b'_'
 }
 
-impl ByteClass for InName {
-    ghost passes = { is_in_name };
-
-    fn has(b: u8) -> bool {
-        begins_name(b) || b.is_ascii_digit()
-    }
-}
-
-impl ByteClass for Blank {
-    ghost passes = { is_blank };
-
-    fn has(b: u8) -> bool {
-        matches!(b, b' ' | b'\t' | b'\n' | b'\r')
-    }
-}
-
-// How many bytes at the front are of the class.
-fn run_length<C: ByteClass>(text: &[u8]) -> usize
-    ensures run { result ≡ prefix_len C.ByteClass.passes text.now }
-    ensures within { result ≤ length text.now }
+fn is_in_name(b: u8) -> bool
+    ensures { result ≡ is_in_name b }
 {
-    let mut n = 0;
-    while n < text.len() && C::has(text[n]) {
-        n += 1;
-    }
-    n
+    begins_name(b) || b.is_ascii_digit()
+}
+
+fn is_blank(b: u8) -> bool
+    ensures { result ≡ is_blank b }
+{
+    matches!(b, b' ' | b'\t' | b'\n' | b'\r')
+}
+
+// The bytes at the front that pass the test.
+fn run<'a, P: Fn(u8) -> bool>(text: &'a [u8], passes: P) -> &'a [u8]
+    requires { P.IsAlwaysCallable passes }
+    ensures front { (length result.now ≤ length text.now) × (result.now ≡ take (length result.now) text.now) }
+    ensures passing { (i : ℕ) → i < length result.now → P.post passes (slice_index text.now i) true }
+    ensures stops { length result.now < length text.now → P.post passes (slice_index text.now (length result.now)) false }
+{
+    let n = text.iter().take_while(|b| passes(**b)).count();
+    &text[..n]
 }
 
 // How many bytes go up to the first `*)` and with it.
@@ -77,84 +55,80 @@ fn find_closing(text: &[u8]) -> Option<usize>
     ensures found { result ≡ closing text.now }
     ensures within { IfSome result (λ n. n ≤ length text.now) }
 {
-    let mut n = 0;
-    while n + 1 < text.len() {
-        if text[n] == b'*' && text[n + 1] == b')' {
-            return Some(n + 2);
-        }
-        n += 1;
-    }
-    None
+    text.windows(2)
+        .position(|w| matches!(w, [b'*', b')']))
+        .map(|n| n + 2)
 }
 
-fn sign_length(text: &[u8]) -> usize
-    ensures longest { result ≡ longest_in signs text.now }
-    ensures within { result ≤ length text.now }
+// The longest sign at the front, if one fits.
+fn sign<'a>(text: &'a [u8]) -> Option<Lexeme<'a>>
+    ensures { option_map part_of result ≡ sign_part text.now }
 {
-    match text {
+    let len = match text {
         [b':', b'=', ..] | [b'*', b'*', ..] | [b'<', b'>' | b'=', ..] | [b'>', b'=', ..] => 2,
         [
             b';' | b'(' | b')' | b'+' | b'-' | b'*' | b'/' | b'=' | b'<' | b'>' | b'&' | b',',
             ..
         ] => 1,
-        _ => 0,
-    }
+        _ => return None,
+    };
+    Some(Lexeme::Sign(&text[..len]))
 }
 
-fn sign_type(sign: &[u8]) -> u16
-    ensures { result ≡ type_in signs sign.now 0 }
+fn sign_type(sign: &[u8]) -> TokenType
+    ensures { number_of result ≡ type_in signs sign.now 0 }
 {
     match sign {
-        b":=" => 3,
-        b";" => 4,
-        b"(" => 5,
-        b")" => 6,
-        b"+" => 7,
-        b"-" => 8,
-        b"*" => 9,
-        b"/" => 10,
-        b"**" => 11,
-        b"=" => 12,
-        b"<>" => 13,
-        b"<" => 14,
-        b"<=" => 15,
-        b">" => 16,
-        b">=" => 17,
-        b"&" => 18,
-        b"," => 19,
-        _ => 0,
+        b":=" => TokenType::Assign,
+        b";" => TokenType::Semicolon,
+        b"(" => TokenType::OpenParen,
+        b")" => TokenType::CloseParen,
+        b"+" => TokenType::Plus,
+        b"-" => TokenType::Minus,
+        b"*" => TokenType::Star,
+        b"/" => TokenType::Slash,
+        b"**" => TokenType::Power,
+        b"=" => TokenType::Equal,
+        b"<>" => TokenType::NotEqual,
+        b"<" => TokenType::Less,
+        b"<=" => TokenType::LessOrEqual,
+        b">" => TokenType::Greater,
+        b">=" => TokenType::GreaterOrEqual,
+        b"&" => TokenType::Ampersand,
+        b"," => TokenType::Comma,
+        _ => TokenType::Unknown,
     }
 }
 
-// A word has a type of its own, and any other name has type 1.
-fn word_type(capitals: &[u8]) -> u16
-    ensures { result ≡ type_in words capitals.now 1 }
+// Whether a name is the word, in either case.
+fn is_word(name: &[u8], word: &[u8]) -> bool
+    requires { capitals word.now ≡ word.now }
+    ensures { result ≡ bytes_eq word.now (capitals name.now) }
 {
-    match capitals {
-        b"AND" => 20,
-        b"OR" => 21,
-        b"XOR" => 22,
-        b"NOT" => 23,
-        b"MOD" => 24,
-        _ => 1,
-    }
+    name.eq_ignore_ascii_case(word)
 }
 
-fn name_type(name: &[u8]) -> u16
-    ensures { result ≡ type_in words (capitals name.now) 1 }
+// A word has a type of its own, and any other name that of names.
+fn name_type(name: &[u8]) -> TokenType
+    ensures { number_of result ≡ type_in words (capitals name.now) 1 }
 {
-    match name {
-        [a, b] => word_type(&[a.to_ascii_uppercase(), b.to_ascii_uppercase()]),
-        [a, b, c] => word_type(&[
-            a.to_ascii_uppercase(),
-            b.to_ascii_uppercase(),
-            c.to_ascii_uppercase(),
-        ]),
-        _ => 1,
+    if is_word(name, b"AND") {
+        TokenType::And
+    } else if is_word(name, b"OR") {
+        TokenType::Or
+    } else if is_word(name, b"XOR") {
+        TokenType::Xor
+    } else if is_word(name, b"NOT") {
+        TokenType::Not
+    } else if is_word(name, b"MOD") {
+        TokenType::Mod
+    } else {
+        TokenType::Name
     }
 }
 
 // From `(*` on.
+#[tactic(auto, using(crate::proofs::Front::comment_front))]
 fn comment<'a>(text: &'a [u8]) -> Option<Lexeme<'a>>
     ensures { option_map part_of result ≡ comment_part text.now }
 {
@@ -162,7 +136,7 @@ fn comment<'a>(text: &'a [u8]) -> Option<Lexeme<'a>>
         return None;
     };
     match find_closing(rest) {
-        Some(n) => Some(Lexeme::Comment(&text[0..n + 2])),
+        Some(n) => Some(Lexeme::Comment(&text[..n + 2])),
         None => Some(Lexeme::Unknown(text)),
     }
 }
@@ -172,14 +146,12 @@ fn sign_or_byte<'a>(text: &'a [u8]) -> Lexeme<'a>
     requires { 1 ≤ length text.now }
     ensures { part_of result ≡ cut (sign_or_byte (longest_in signs text.now)) text.now }
 {
-    match sign_length(text) {
-        0 => Lexeme::Unknown(&text[0..1]),
-        n => Lexeme::Sign(&text[0..n]),
-    }
+    sign(text).unwrap_or(Lexeme::Unknown(&text[..1]))
 }
 
 impl<'a> Lexeme<'a> {
     // The lexeme at the front of a text, if the text has a byte at all.
+    #[tactic(auto, using(crate::proofs::Front::sign_front))]
     pub fn first(text: &'a [u8]) -> Option<Lexeme<'a>>
         ensures { option_map part_of result ≡ first_part text.now }
     {
@@ -187,43 +159,40 @@ impl<'a> Lexeme<'a> {
             return None;
         };
         if begins_name(*b) {
-            return Some(Lexeme::Name(&text[0..run_length::<InName>(text)]));
+            return Some(Lexeme::Name(run(text, is_in_name)));
         }
-        if Digit::has(*b) {
-            return Some(Lexeme::Number(&text[0..run_length::<Digit>(text)]));
+        if b.is_ascii_digit() {
+            return Some(Lexeme::Number(run(text, |b| b.is_ascii_digit())));
         }
-        if Blank::has(*b) {
-            return Some(Lexeme::Blank(&text[0..run_length::<Blank>(text)]));
+        if is_blank(*b) {
+            return Some(Lexeme::Blank(run(text, is_blank)));
         }
-        match comment(text) {
-            Some(found) => Some(found),
-            None => Some(sign_or_byte(text)),
-        }
+        comment(text).or_else(|| Some(sign_or_byte(text)))
     }
 
     pub fn bytes(&self) -> &'a [u8]
         ensures { result.now ≡ (part_of self.now).bytes }
     {
         match self {
-            Lexeme::Name(bytes) => *bytes,
-            Lexeme::Number(bytes) => *bytes,
-            Lexeme::Sign(bytes) => *bytes,
-            Lexeme::Blank(bytes) => *bytes,
-            Lexeme::Comment(bytes) => *bytes,
-            Lexeme::Unknown(bytes) => *bytes,
+            Lexeme::Name(bytes)
+            | Lexeme::Number(bytes)
+            | Lexeme::Sign(bytes)
+            | Lexeme::Blank(bytes)
+            | Lexeme::Unknown(bytes)
+            | Lexeme::Comment(bytes) => *bytes,
         }
     }
 
-    pub fn ttype(&self) -> u16
-        ensures { result ≡ type_of (part_of self.now).kind (part_of self.now).bytes }
+    pub fn ttype(&self) -> TokenType
+        ensures { number_of result ≡ type_of (part_of self.now).kind (part_of self.now).bytes }
     {
         match self {
             Lexeme::Name(bytes) => name_type(*bytes),
-            Lexeme::Number(_) => 2,
+            Lexeme::Number(_) => TokenType::Number,
             Lexeme::Sign(bytes) => sign_type(*bytes),
-            Lexeme::Blank(_) => 25,
-            Lexeme::Comment(_) => 26,
-            Lexeme::Unknown(_) => 0,
+            Lexeme::Blank(_) => TokenType::Blank,
+            Lexeme::Comment(_) => TokenType::Comment,
+            Lexeme::Unknown(_) => TokenType::Unknown,
         }
     }
 
@@ -232,8 +201,8 @@ impl<'a> Lexeme<'a> {
         ensures { result ≡ channel_of (part_of self.now).kind }
     {
         match self {
-            Lexeme::Blank(_) | Lexeme::Comment(_) => 1,
-            _ => 0,
+            Lexeme::Blank(_) | Lexeme::Comment(_) => Token::HIDDEN_CHANNEL,
+            _ => Token::DEFAULT_CHANNEL,
         }
     }
 }

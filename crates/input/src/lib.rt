@@ -4,9 +4,10 @@
 pub mod channel_filter;
 pub mod examples;
 pub mod lexeme;
-mod lookahead;
+pub mod lookahead;
 pub mod scanner;
 pub mod text;
 pub mod token;
 mod token_source;
 pub mod token_stream;
+pub mod token_type;

@@ -1,11 +1,13 @@
 // The text of a program, of at most 65,536 bytes.
-ghost use Rattle.std.specs.Prelude.{◌≡◌};
-ghost use Rattle.input.specs.Text.{bytes_of, Taken, refusal_number};
+ghost use Rattle.std.specs.Prelude.{◌≡◌, ◌≤◌, length};
 
-// Of a longer slice, which no call makes a text of, the first 65,536 bytes count.
+use std::error::Error;
+use std::fmt;
+
 #[derive(Clone, Copy, Drop)]
 pub struct Text<'a> {
     bytes: &'a [u8],
+    ghost short: { length bytes.now ≤ 65536 },
 }
 
 // Why a slice is refused: it has more than 65,536 bytes.
@@ -13,6 +15,9 @@ pub struct Text<'a> {
 pub struct TextTooLong;
 
 impl TextTooLong {
+    ghost use Rattle.input.specs.Text.{refusal_number};
+
+    // The number under which the refusal is printed.
     pub fn number(&self) -> u8
         ensures { result ≡ refusal_number self.now }
     {
@@ -20,7 +25,22 @@ impl TextTooLong {
     }
 }
 
+impl fmt::Display for TextTooLong {
+    ghost use Rattle.std.specs.Prelude.{Some};
+    ghost use Rattle.input.specs.Text.{refusal_text};
+
+    ghost output = { λ e. Some (refusal_text e) };
+
+    fn fmt<W: fmt::Write>(&self, f: &mut fmt::Formatter<W>) -> fmt::Result {
+        f.write_str("out of range")
+    }
+}
+
+impl Error for TextTooLong {}
+
 impl<'a> Text<'a> {
+    ghost use Rattle.input.specs.Text.{bytes_of, Taken};
+
     // The most bytes that a text has.
     pub const LONGEST: usize = 65536;
 
@@ -36,9 +56,6 @@ impl<'a> Text<'a> {
     pub fn bytes(&self) -> &'a [u8]
         ensures { result.now ≡ bytes_of self.now }
     {
-        if self.bytes.len() > Self::LONGEST {
-            return &self.bytes[0..Self::LONGEST];
-        }
         self.bytes
     }
 }

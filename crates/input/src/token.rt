@@ -2,10 +2,11 @@
 ghost use Rattle.std.specs.Prelude.{◌≡◌};
 ghost use Rattle.input.specs.Tokens.{is_end};
 
+// The fields are numbers: each grammar chooses its types and channels, and a token of another maker is to fit in as it is.
 #[derive(Clone, Copy, Debug, PartialEq, Eq, Drop)]
 pub struct Token {
     pub ttype: i32, // -1 is the end of the input, any other is 0 to 65,535
-    pub channel: u8, // a parser sees channel 0 only
+    pub channel: u8,
     pub index: i32, // its place in the input, or -1 if it was made up
     pub offset: u32, // where its part of the text begins
     pub len: u32, // how many bytes its part has
@@ -14,6 +15,12 @@ pub struct Token {
 impl Token {
     // The type of the token that stands at the end of the input.
     pub const END: i32 = -1;
+
+    // The channel that a parser sees.
+    pub const DEFAULT_CHANNEL: u8 = 0;
+
+    // The channel of blanks and comments.
+    pub const HIDDEN_CHANNEL: u8 = 1;
 
     pub fn is_end(&self) -> bool
         ensures { result ≡ is_end self.now }

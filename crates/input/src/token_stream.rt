@@ -8,9 +8,6 @@ use crate::token::Token;
 pub trait TokenStream {
     ghost meaning: { Self → Stream };
 
-    // What an implementation owes with its meaning.
-    ghost formed: { (s : Self) → WellFormed (meaning s) };
-
     // The first token ahead, or the end where none is.
     fn current(&self) -> Token
         ensures { result ≡ current_token (meaning self.now) };
@@ -26,4 +23,7 @@ pub trait TokenStream {
     // Moves past the current token; at the end it does nothing.
     fn consume(&mut self)
         ensures { meaning self.new ≡ moved (meaning self.old) };
+
+    // The meaning of every stream is well formed.
+    ghost formed: { (s : Self) → WellFormed (meaning s) };
 }

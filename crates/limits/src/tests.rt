@@ -21,6 +21,13 @@ fn check_one(rt: &impl Abort, bytes: &[u8], ttype: i32, channel: u8) -> Result<(
     Ok(())
 }
 
+// Fills a text with a piece, again and again.
+fn repeat(text: &mut [u8], piece: &[u8]) {
+    for (b, of_piece) in text.iter_mut().zip(piece.iter().copied().cycle()) {
+        *b = of_piece;
+    }
+}
+
 #[test]
 fn empty_text_is_its_end(rt: HostRuntime) -> Result<(), Fail> {
     let mut tokens = Scanner::new(Text::new(b"")?);
@@ -77,10 +84,9 @@ fn one_byte_of_each_kind(rt: HostRuntime) -> Result<(), Fail> {
 fn signs_of_one_byte(rt: HostRuntime) -> Result<(), Fail> {
     let signs = b";()+-*/=<>&,";
     let types = [4, 5, 6, 7, 8, 9, 10, 12, 14, 16, 18, 19];
-    for (i, t) in types.iter().enumerate() {
-        if i < signs.len() {
-            check_one(&rt, &[signs[i]], *t, 0)?;
-        }
+    assert_eq!(rt; signs.len(), types.len());
+    for (sign, ttype) in signs.iter().zip(&types) {
+        check_one(&rt, &[*sign], *ttype, 0)?;
     }
     Ok(())
 }
@@ -130,10 +136,8 @@ fn filter_looks_back_past_blanks(rt: HostRuntime) -> Result<(), Fail> {
 
 #[test]
 fn ten_thousand_comments(rt: HostRuntime) -> Result<(), Fail> {
-    let mut text = [b'('; 40000];
-    for (i, b) in text.iter_mut().enumerate() {
-        *b = b"(**)"[i % 4];
-    }
+    let mut text = [0; 40000];
+    repeat(&mut text, b"(**)");
     let mut tokens = Scanner::new(Text::new(&text)?);
     for _ in 0..9999 {
         tokens.consume();
@@ -154,10 +158,8 @@ fn ten_thousand_comments(rt: HostRuntime) -> Result<(), Fail> {
 
 #[test]
 fn ten_thousand_openings(rt: HostRuntime) -> Result<(), Fail> {
-    let mut text = [b'('; 20000];
-    for (i, b) in text.iter_mut().enumerate() {
-        *b = b"(*"[i % 2];
-    }
+    let mut text = [0; 20000];
+    repeat(&mut text, b"(*");
     let (token, after) = first(&text)?;
     assert_eq!(rt;
         token,

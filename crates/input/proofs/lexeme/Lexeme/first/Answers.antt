@@ -1,11 +1,21 @@
-use Rattle.std.proofs.Common.{Some, sym, ap, ◌∙◌, arith}
-use Rattle.std.proofs.lemmas.Bool.{ltb-true, ltb-false}
-use Rattle.input.specs.Lexemes.{Part}
-use Rattle.input.proofs.Front.{sign_front}
+use Rattle.std.proofs.Common.{rules}
+use Rattle.input.specs.Bytes.{is_digit, is_in_name, is_blank}
+use Rattle.input.proofs.Front.{run_is}
 use Rattle.input.proofs.lexeme.Lexeme.first.Goals as goal
 
-pub returns-in-None : goal.returns-in-None
-returns-in-None c =
-    ap (λ (p : Part). Some p) c.sign_or_byte.ensures
-    ∙ sign_front c.args.text.now (omega (arith, ltb-true, ltb-false)) (sym c.if-begins_name.ensures) (sym c.if-has.ensures)
-    (sym c.if-has-2.ensures) c.in-None.ensures
+pub returns-then-begins_name : goal.returns-then-begins_name
+returns-then-begins_name c =
+    let is = run_is is_in_name c.args.text.now c.run.result.now c.run.ensures.front (λ i l. search (rules, c.run.ensures.passing i l)) (λ l. search (rules, c.run.ensures.stops l)) in
+    search (rules, is)
+
+pub returns-then-is_ascii_digit : goal.returns-then-is_ascii_digit
+returns-then-is_ascii_digit c =
+    let run = c.run-then-is_ascii_digit in
+    let is = run_is is_digit c.args.text.now run.result.now run.ensures.front (λ i l. search (rules, run.ensures.passing i l)) (λ l. search (rules, run.ensures.stops l)) in
+    search (rules, is)
+
+pub returns-then-is_blank : goal.returns-then-is_blank
+returns-then-is_blank c =
+    let run = c.run-then-is_blank in
+    let is = run_is is_blank c.args.text.now run.result.now run.ensures.front (λ i l. search (rules, run.ensures.passing i l)) (λ l. search (rules, run.ensures.stops l)) in
+    search (rules, is)
