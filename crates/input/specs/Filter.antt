@@ -1,5 +1,5 @@
 -- The channel filter: of a stream, the tokens on channel 0.
-use Rattle.std.specs.Prelude.{cond, List, [], ◌∷◌, None, ◌==◌}
+use Rattle.std.specs.Prelude.{if◌then◌else◌, List, [], ◌∷◌, None, ◌==◌}
 use Rattle.input.specs.declared.token.Token.{Token}
 use Rattle.input.specs.declared.channel_filter.Visible.{Visible}
 use Rattle.input.specs.declared.lookahead.Lookahead.{Lookahead}
@@ -9,7 +9,7 @@ use Rattle.input.specs.Lookahead.{stream}
 -- the tokens on channel 0, in their order
 abbrev pub on_channel_0 : List Token → List Token
 on_channel_0 [] = []
-on_channel_0 (t ∷ ts) = cond (t.channel == 0) (t ∷ on_channel_0 ts) (on_channel_0 ts)
+on_channel_0 (t ∷ ts) = if t.channel == 0 then t ∷ on_channel_0 ts else on_channel_0 ts
 
 -- what a filter means when it is opened over a stream: no previous token, ahead the stream's tokens ahead on channel 0, and the stream's end
 abbrev pub filtered : Stream → Stream

@@ -1,5 +1,5 @@
 -- What is held ready of a stream.
-use Rattle.std.specs.Prelude.{Bool, cond, ◌&&◌, List, [], ◌∷◌}
+use Rattle.std.specs.Prelude.{Bool, if◌then◌else◌, ◌&&◌, List, [], ◌∷◌}
 use Rattle.input.specs.declared.token.Token.{Token}
 use Rattle.input.specs.declared.lookahead.Held.{Held}
 use Rattle.input.specs.declared.lookahead.Held.TheVariants.{Two, One, Nothing}
@@ -38,8 +38,8 @@ held_end (Nothing end) s = end
 
 -- what is held of a token and of the one found after it, which may be the end
 abbrev pub held_after : Token → Token → Held
-held_after t next = cond (is_end next) (One t next) (Two t next)
+held_after t next = if is_end next then One t next else Two t next
 
 -- what is held of the first two that a source gives, each of which may be the end
 abbrev pub held_first : Token → Token → Held
-held_first first second = cond (is_end first) (Nothing first) (held_after first second)
+held_first first second = if is_end first then Nothing first else held_after first second

@@ -1,5 +1,5 @@
 -- The token rules: what may stand at the front of a text, how far it goes, and which type it has.
-use Rattle.std.specs.Prelude.{ℕ, zero, suc, ◌+◌, max, cond, List, [], ◌∷◌, length, take, drop, Some, None, codes, Option, ◌==◌}
+use Rattle.std.specs.Prelude.{ℕ, zero, suc, ◌+◌, max, if◌then◌else◌, List, [], ◌∷◌, length, take, drop, Some, None, codes, Option, ◌==◌}
 use Rattle.std.specs.List.{prefix_len}
 use Rattle.input.specs.declared.lexeme.Lexeme.{Lexeme}
 use Rattle.input.specs.declared.lexeme.Lexeme.TheVariants.{Name, Number, Sign, Blank, Comment, Unknown}
@@ -22,12 +22,12 @@ words = (codes "AND", 20) ∷ (codes "OR", 21) ∷ (codes "XOR", 22) ∷ (codes 
 -- the type that a list gives to these bytes, or another where they are not in it
 abbrev pub type_in : List (Bytes × ℕ) → Bytes → ℕ → ℕ
 type_in [] part other = other
-type_in ((bytes, k) ∷ more) part other = cond (bytes_eq bytes part) k (type_in more part other)
+type_in ((bytes, k) ∷ more) part other = if bytes_eq bytes part then k else type_in more part other
 
 -- the length of the longest sign that a text begins with, or 0
 abbrev pub longest_in : List (Bytes × ℕ) → Bytes → ℕ
 longest_in [] text = 0
-longest_in ((sign, k) ∷ more) text = max (cond (starts_with sign text) (length sign) 0) (longest_in more text)
+longest_in ((sign, k) ∷ more) text = max (if starts_with sign text then length sign else 0) (longest_in more text)
 
 -- the number plus one, or none where there is none
 abbrev pub one_more : Option ℕ → Option ℕ
@@ -37,7 +37,7 @@ one_more (Some n) = Some (suc n)
 -- how many bytes there are up to the first `*)` and with it, if there is one
 abbrev pub closing : Bytes → Option ℕ
 closing [] = None
-closing (b ∷ bs) = cond (starts_with (codes "*)") (b ∷ bs)) (Some 2) (one_more (closing bs))
+closing (b ∷ bs) = if starts_with (codes "*)") (b ∷ bs) then Some 2 else one_more (closing bs)
 
 -- ── what stands at the front of a text ──
 
@@ -69,11 +69,11 @@ sign_or_byte (suc n) = front_is sign (suc n)
 abbrev pub front_of : ℕ → Bytes → Front
 front_of b bs =
     let text = b ∷ bs in
-    cond (begins_name b) (front_is name (prefix_len is_in_name text))
-    (cond (is_digit b) (front_is number (prefix_len is_digit text))
-    (cond (is_blank b) (front_is blank (prefix_len is_blank text))
-    (cond (starts_with (codes "(*") text) (comment_or_rest (closing (drop 2 text)) (length text))
-    (sign_or_byte (longest_in signs text)))))
+    if begins_name b then front_is name (prefix_len is_in_name text)
+    else (if is_digit b then front_is number (prefix_len is_digit text)
+    else (if is_blank b then front_is blank (prefix_len is_blank text)
+    else (if starts_with (codes "(*") text then comment_or_rest (closing (drop 2 text)) (length text)
+    else sign_or_byte (longest_in signs text))))
 
 -- ── the type and the channel of a lexeme, by its kind and its bytes ──
 
@@ -114,11 +114,11 @@ first_part (b ∷ bs) = Some (cut (front_of b bs) (b ∷ bs))
 
 -- the comment, or the rest that is never closed, that a text begins with, as kind and bytes; none unless the text begins with `(*`
 abbrev pub comment_part : Bytes → Option Part
-comment_part text = cond (starts_with (codes "(*") text) (Some (cut (comment_or_rest (closing (drop 2 text)) (length text)) text)) None
+comment_part text = if starts_with (codes "(*") text then Some (cut (comment_or_rest (closing (drop 2 text)) (length text)) text) else None
 
 -- the longest sign that a text begins with, as kind and bytes; none where no sign fits
 abbrev pub sign_part : Bytes → Option Part
-sign_part text = cond (longest_in signs text == 0) None (Some (cut (front_is sign (longest_in signs text)) text))
+sign_part text = if longest_in signs text == 0 then None else Some (cut (front_is sign (longest_in signs text)) text)
 
 -- the kind and the bytes of a lexeme of the code
 abbrev pub part_of : Lexeme → Part

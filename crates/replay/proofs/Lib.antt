@@ -1,10 +1,4 @@
-pub mod Splits
-pub mod Escapes
-pub mod Lookup
-pub mod Sayings
 pub mod Reading
-pub mod Parts
 pub mod Prints
-pub mod Streams
 pub mod Listings
 pub mod Answering

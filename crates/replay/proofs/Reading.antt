@@ -1,87 +1,107 @@
--- A recording, read line by line and name by name.
-use Rattle.std.proofs.Common.{◌≡◌, ℕ, suc, ◌+◌, ◌<◌, Bool, false, cond, List, [], ◌∷◌, ◌++◌, length, IfSome, Some, None, Ok, Err, Option, Result, unwrap_or, sym, refl, ap, ◌∙◌, subst, arith, Bor}
-use Rattle.std.proofs.lemmas.List.{append_assoc, map_push, nil_from_length}
-use Rattle.std.specs.Option.{option_map}
+-- A recording, read line by line.
+use Rattle.std.proofs.Common.{◌≡◌, ℕ, ◌+◌, ◌<◌, ◌⊎◌, ◌==◌, Bool, true, false, cond, List, [], ◌∷◌, ◌++◌, length, get_or, drop, Ok, Err, Result, MatchResult, IsOkAnd, refl, sym, ap, ◌∙◌, subst, inl, inr, arith}
+use Rattle.std.proofs.lemmas.List.{drop_more, drop_all}
+use Rattle.std.proofs.lemmas.List.FromFn.{length-enumerate_from, get_or-enumerate_from}
+use Rattle.std.specs.List.{onto_first, slice_split, enumerate_from}
 use Rattle.replay.specs.declared.fault.Fault.{Fault}
-use Rattle.replay.specs.declared.fault.Fault.TheVariants.{UnknownWord, NotYet, EmptyName, UnknownEscape, Memory}
+use Rattle.replay.specs.declared.fault.LineError.{LineError}
+use Rattle.replay.specs.declared.fault.LineError.TheVariants.{Wrong, Memory}
 use Rattle.replay.specs.declared.fault.BadLine.{BadLine}
+use Rattle.replay.specs.declared.fault.ReadError.{ReadError}
+use Rattle.replay.specs.declared.recording.Head.{Head}
 use Rattle.replay.specs.declared.recording.Recording.{Recording}
-use Rattle.replay.specs.Bytes.{Bytes, up_to, behind}
+use Rattle.replay.specs.Bytes.{Bytes}
+use Rattle.replay.specs.Faults.{at_line, Gives}
 use Rattle.replay.specs.Lines.{says}
-use Rattle.replay.specs.Recordings.{lines, words, words_if_any, none_empty, names, Said, continued, with_line, go_on, with_lines, bytes_in, UnlessMemory, Recorded}
-use Rattle.replay.proofs.Splits.{words_cut, lines_cut}
+use Rattle.replay.specs.Recordings.{lines, Said, with_line, go_on, with_lines, nothing_said, recorded, said_by, IsReadAs, Recorded}
 
--- ── the text ──
+-- the pieces between LFs (10)
+abbrev pub pieces : Bytes → List Bytes
+pieces input = slice_split (λ b. b == 10) input
 
-pub text_goes_on : (o : Option Bytes) (text line out : Bytes) → o ≡ Some text → out ≡ text ++ (10 ∷ line) → ◌≡◌ {A = Result Bytes Fault} (Ok (continued o line)) (Ok out)
-text_goes_on o text line out is then = ap (λ (x : Option Bytes). Ok (continued x line)) is ∙ ap (λ (bs : Bytes). Ok bs) (sym then)
+-- they are the lines, or the lines and an empty piece
+abbrev IsCut : List Bytes → List Bytes → Type 0
+IsCut ls ps = (ls ≡ ps) ⊎ (ls ++ ([] ∷ []) ≡ ps)
 
--- ── the names ──
+-- the same with one more byte in front
+onto_cut : (b : ℕ) (ls ps : List Bytes) → IsCut ls ps → IsCut (onto_first b ls) (onto_first b ps)
+onto_cut b ls ps (inl same) = inl (ap (onto_first b) same)
+onto_cut b [] ps (inr more) = inl (ap (onto_first b) more)
+onto_cut b (l ∷ ls) ps (inr more) = inr (ap (onto_first b) more)
 
-first_empty : (name : Bytes) (more : List Bytes) → length name ≡ 0 → none_empty (name ∷ more) ≡ false
-first_empty [] more e = refl
-first_empty (b ∷ bs) more e = absurd (omega arith)
+cut : (input : Bytes) → IsCut (lines input) (pieces input)
+cut [] = inr refl
+cut (b ∷ bs) = go (b == 10) (cut bs)
+  where
+    go : (t : Bool) → IsCut (lines bs) (pieces bs) → IsCut (cond t ([] ∷ lines bs) (onto_first b (lines bs))) (cond t ([] ∷ pieces bs) (onto_first b (pieces bs)))
+    go true (inl same) = inl (ap (λ (ls : List Bytes). [] ∷ ls) same)
+    go true (inr more) = inr (ap (λ (ls : List Bytes). [] ∷ ls) more)
+    go false is = onto_cut b (lines bs) (pieces bs) is
 
-first_full : (name : Bytes) (more : List Bytes) → 0 < length name → none_empty (name ∷ more) ≡ none_empty more
-first_full [] more e = absurd (omega arith)
-first_full (b ∷ bs) more e = refl
+-- two ways to go on that agree
+go_same : (number : ℕ) (w : Result Said Fault) (f g : Said → Result Said BadLine) → ((t : Said) → f t ≡ g t) → go_on number w f ≡ go_on number w g
+go_same number (Ok t) f g same = same t
+go_same number (Err fault) f g same = refl
 
-pub empty_name : (o : Option Bytes) (rest : Bytes) → none_empty (words_if_any o) ≡ none_empty (words rest) → length (up_to 32 rest) ≡ 0 → names o ≡ Err EmptyName
-empty_name o rest inv empty =
-    ap (λ (b : Bool). cond b (Ok (words_if_any o)) (Err EmptyName)) (inv ∙ ap none_empty (words_cut rest) ∙ first_empty (up_to 32 rest) (words_if_any (behind 32 rest)) empty)
+-- an empty line at the end says nothing
+empty_last : (number : ℕ) (s : Said) (ls : List Bytes) → with_lines number s (ls ++ ([] ∷ [])) ≡ with_lines number s ls
+empty_last number s [] = refl
+empty_last number s (l ∷ ls) = go_same number (with_line s (says l)) _ _ (λ t. empty_last (number + 1) t ls)
 
-pub names_push : (refs refs' : List (Bor Bytes)) (r : Bor Bytes) → refs' ≡ refs ++ (r ∷ []) → bytes_in refs' ≡ bytes_in refs ++ (r.now ∷ [])
-names_push refs refs' r pushed = ap bytes_in pushed ∙ map_push (λ (x : Bor Bytes). x.now) refs r
+-- so the pieces may be read in the place of the lines
+pub from_pieces : (input : Bytes) → recorded input ≡ with_lines 1 nothing_said (pieces input)
+from_pieces input = go (cut input)
+  where
+    go : IsCut (lines input) (pieces input) → recorded input ≡ with_lines 1 nothing_said (pieces input)
+    go (inl same) = ap (with_lines 1 nothing_said) same
+    go (inr more) = sym (empty_last 1 nothing_said (lines input)) ∙ ap (with_lines 1 nothing_said) more
 
-module _ (all read : List Bytes) (rest name : Bytes) (others : Option Bytes) (is : name ≡ up_to 32 rest) (then : others ≡ behind 32 rest) where
-  cut : words rest ≡ name ∷ words_if_any others
-  cut = words_cut rest ∙ ap (λ (bs : Bytes). bs ∷ words_if_any (behind 32 rest)) (sym is) ∙ ap (λ (o : Option Bytes). name ∷ words_if_any o) (sym then)
-
-  pub name_more : (read' : List Bytes) → all ≡ read ++ words rest → read' ≡ read ++ (name ∷ []) → all ≡ read' ++ words_if_any others
-  name_more read' inv pushed =
-      inv ∙ ap (λ (ws : List Bytes). read ++ ws) cut ∙ sym (append_assoc read (name ∷ []) (words_if_any others)) ∙ ap (λ (ws : List Bytes). ws ++ words_if_any others) (sym pushed)
-
-  pub full_more : none_empty all ≡ none_empty (words rest) → 0 < length name → none_empty all ≡ none_empty (words_if_any others)
-  full_more inv some = inv ∙ ap none_empty cut ∙ first_full name (words_if_any others) some
-
--- how much is left to read of them
-abbrev pub left : Option (Bor Bytes) → ℕ
-left None = 0
-left (Some rest) = suc (length rest.now)
-
--- ── the lines ──
-
-pub rest_is : (o : Option (Bor Bytes)) (d r : Bor Bytes) → r ≡ unwrap_or o d → d.now ≡ [] → r.now ≡ unwrap_or (option_map (λ x. x.now) o) []
-rest_is None d r is none = ap (λ (x : Bor Bytes). x.now) is ∙ none
-rest_is (Some x) d r is none = ap (λ (x : Bor Bytes). x.now) is
-
-pub rest_shorter : (o : Option (Bor Bytes)) (d r : Bor Bytes) (n : ℕ) → r ≡ unwrap_or o d → d.now ≡ [] → 0 < n → IfSome o (λ x. length x.now < n) → length r.now < n
-rest_shorter None d r n is none some h = omega (arith, ap (λ (x : Bor Bytes). length x.now) is, ap length none)
-rest_shorter (Some x) d r n is none some h = omega (arith, ap (λ (x : Bor Bytes). length x.now) is, h)
-
-module _ (number : ℕ) (s : Said) (rest line after : Bytes) (some : 0 < length rest) (is : line ≡ up_to 10 rest) (then : after ≡ unwrap_or (behind 10 rest) []) where
-  one_line : with_lines number s (lines rest) ≡ go_on number (with_line s (says line)) (λ t. with_lines (number + 1) t (lines after))
+-- the piece at i: what the pieces from there on give
+module _ (number : ℕ) (s : Said) (ps : List Bytes) (i : ℕ) (line : Bytes) (within : i < length ps) (is : line ≡ get_or ps i line) where
+  one_line : with_lines number s (drop i ps) ≡ go_on number (with_line s (says line)) (λ t. with_lines (number + 1) t (drop (i + 1) ps))
   one_line =
-      ap (with_lines number s) (lines_cut rest some)
-      ∙ ap (λ (bs : Bytes). go_on number (with_line s (says bs)) (λ t. with_lines (number + 1) t (lines (unwrap_or (behind 10 rest) [])))) (sym is)
-      ∙ ap (λ (bs : Bytes). go_on number (with_line s (says line)) (λ t. with_lines (number + 1) t (lines bs))) (sym then)
+      ap (with_lines number s) (drop_more ps i line within)
+      ∙ ap (λ (bs : Bytes). go_on number (with_line s (says bs)) (λ t. with_lines (number + 1) t (drop (i + 1) ps))) (sym is)
 
-  pub line_more : (t : Said) → with_line s (says line) ≡ Ok t → with_lines number s (lines rest) ≡ with_lines (number + 1) t (lines after)
-  line_more t e = one_line ∙ ap (λ (w : Result Said Fault). go_on number w (λ u. with_lines (number + 1) u (lines after))) e
+  pub line_read : (t : Said) → with_line s (says line) ≡ Ok t → with_lines number s (drop i ps) ≡ with_lines (number + 1) t (drop (i + 1) ps)
+  line_read t e = one_line ∙ ap (λ (w : Result Said Fault). go_on number w (λ u. with_lines (number + 1) u (drop (i + 1) ps))) e
 
-  wrong_line : (fault : Fault) → with_line s (says line) ≡ Err fault → with_lines number s (lines rest) ≡ Err (record { number = number; fault = fault })
-  wrong_line fault e = one_line ∙ ap (λ (w : Result Said Fault). go_on number w (λ u. with_lines (number + 1) u (lines after))) e
+  pub line_wrong : (fault : Fault) → with_line s (says line) ≡ Err fault → with_lines number s (drop i ps) ≡ Err (record { number = number; fault = fault })
+  line_wrong fault e = one_line ∙ ap (λ (w : Result Said Fault). go_on number w (λ u. with_lines (number + 1) u (drop (i + 1) ps))) e
 
-  pub line_refused : (meant : Result Said BadLine) (fault : Fault) → meant ≡ with_lines number s (lines rest) → UnlessMemory fault (with_line s (says line) ≡ Err fault)
-      → Recorded meant (Err (record { number = number; fault = fault }))
-  line_refused meant UnknownWord inv e = subst (λ (m : Result Said BadLine). Recorded m (Err (record { number = number; fault = UnknownWord }))) (sym (inv ∙ wrong_line UnknownWord e)) refl
-  line_refused meant (NotYet k) inv e = subst (λ (m : Result Said BadLine). Recorded m (Err (record { number = number; fault = NotYet k }))) (sym (inv ∙ wrong_line (NotYet k) e)) refl
-  line_refused meant EmptyName inv e = subst (λ (m : Result Said BadLine). Recorded m (Err (record { number = number; fault = EmptyName }))) (sym (inv ∙ wrong_line EmptyName e)) refl
-  line_refused meant UnknownEscape inv e = subst (λ (m : Result Said BadLine). Recorded m (Err (record { number = number; fault = UnknownEscape }))) (sym (inv ∙ wrong_line UnknownEscape e)) refl
-  line_refused (Ok s) Memory inv e = tt
-  line_refused (Err b) Memory inv e = tt
+-- at an item of the pieces with their places
+pub piece_there : (ps : List Bytes) (n i : ℕ) (line : Bytes) → (n < length (enumerate_from 0 ps)) × (◌≡◌ {A = ℕ × Bytes} (i, line) (get_or (enumerate_from 0 ps) n (i, line)))
+    → (n < length ps) × (i ≡ n) × (line ≡ get_or ps n line)
+piece_there ps n i line there =
+    let within : n < length ps = omega (arith, there.0, length-enumerate_from 0 ps) in
+    let is = there.1 ∙ get_or-enumerate_from 0 ps n (i, line) within in
+    (within, omega (arith, ap (λ (p : ℕ × Bytes). p.0) is), ap (λ (p : ℕ × Bytes). p.1) is)
 
-pub all_read : (meant : Result Said BadLine) (number : ℕ) (s : Said) (rest : Bytes) (r : Recording) → meant ≡ with_lines number s (lines rest) → length rest ≡ 0
-    → Recorded (Ok s) (Ok r) → Recorded meant (Ok r)
-all_read meant number s rest r inv none done =
-    subst (λ (m : Result Said BadLine). Recorded m (Ok r)) (sym (inv ∙ ap (λ (bs : Bytes). with_lines number s (lines bs)) (nil_from_length rest none))) done
+-- all pieces are read
+pub all_read : (meant : Result Said BadLine) (number n : ℕ) (s : Said) (ps : List Bytes) (r : Recording) → meant ≡ with_lines number s (drop n ps)
+    → n ≡ length (enumerate_from 0 ps) → IsReadAs s r → IsOkAnd meant (λ t. IsReadAs t r)
+all_read meant number n s ps r inv all done =
+    subst (λ (m : Result Said BadLine). IsOkAnd m (λ t. IsReadAs t r))
+    (sym (inv ∙ ap (with_lines number s) (drop_all n ps (omega (arith, all, length-enumerate_from 0 ps))))) done
+
+-- the answer to a line that was not read
+refused_at : (meant : Result Said BadLine) (w : Result Said Fault) (number : ℕ) (e : LineError) → Gives said_by w (Err e)
+    → ((fault : Fault) → w ≡ Err fault → meant ≡ Err (record { number = number; fault = fault })) → Recorded meant (Err (at_line number e))
+refused_at meant w number (Wrong fault) is then = then fault is
+refused_at meant w number Memory is then = tt
+
+pub line_refused : (meant : Result Said BadLine) (w : Result Said Fault) (n i : ℕ) (r : Result Head LineError) (e : LineError) (f : ReadError) (out : Result Recording ReadError)
+    → Gives said_by w r → r ≡ Err e → f ≡ at_line (i + 1) e → i ≡ n → out ≡ Err f
+    → ((fault : Fault) → w ≡ Err fault → meant ≡ Err (record { number = n + 1; fault = fault })) → Recorded meant out
+line_refused meant w n i r e f out gave is at same goes then =
+    let last : out ≡ Err (at_line (n + 1) e) = cc (ap (λ (k : ℕ). at_line (k + 1) e) same) in
+    subst (Recorded meant) (sym last) (refused_at meant w (n + 1) e (subst (Gives said_by w) is gave) then)
+
+-- what `map_err` kept, and what it turned into another error
+pub kept : {H E : Type 0} (F : Type 0) (r : Result H E) (h : H) → MatchResult r (λ x. ◌≡◌ {A = Result H F} (Ok h) (Ok x)) (λ e. ⊥) → r ≡ Ok h
+kept F (Ok x) h is = cc
+kept F (Err e) h is = absurd is
+
+pub turned : {H E F : Type 0} (r : Result H E) (f : F) (P : E → Type 0) → MatchResult r (λ x. ◌≡◌ {A = Result H F} (Err f) (Ok x)) P → (e : E) × (r ≡ Err e) × P e
+turned (Ok x) f P is = absurd cc
+turned (Err e) f P is = (e, refl, is)

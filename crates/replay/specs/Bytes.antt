@@ -1,27 +1,29 @@
 -- Bytes: cut at a mark, read with escapes, and written with escapes.
-use Rattle.std.specs.Prelude.{◌≡◌, ℕ, ◌<◌, cond, List, [], ◌∷◌, length, Some, None, Option, ◌==◌}
+use Rattle.std.specs.Prelude.{◌≡◌, ℕ, ◌+◌, ◌<◌, if◌then◌else◌, [], ◌∷◌, length, drop, Some, None, Ok, Err, Option, Result, option_map, position, ◌==◌}
 use Rattle.std.specs.Borrow.{Bor}
-use Rattle.std.specs.List.{flat_map}
-
--- some bytes as a list of numbers; those of a slice of bytes are below 256, which this type does not say
-abbrev pub Bytes : Type 0
-Bytes = List ℕ
+use Rattle.std.specs.List.{before_first, flat_map}
+use Rattle.replay.specs.declared.fault.Fault.{Fault}
+use Rattle.replay.specs.declared.fault.Fault.TheVariants.{UnknownEscape}
+pub use Rattle.input.specs.Bytes.{Bytes}
 
 -- the bytes up to the first mark; all of them if there is none
 abbrev pub up_to : ℕ → Bytes → Bytes
-up_to mark [] = []
-up_to mark (b ∷ bs) = cond (b == mark) [] (b ∷ up_to mark bs)
+up_to mark bytes = before_first (λ b. b == mark) bytes
 
 -- the bytes behind the first mark, if there is one
 abbrev pub behind : ℕ → Bytes → Option Bytes
-behind mark [] = None
-behind mark (b ∷ bs) = cond (b == mark) (Some bs) (behind mark bs)
+behind mark bytes = option_map (λ i. drop (i + 1) bytes) (position (λ b. b == mark) bytes)
 
 -- ── reading: \n, \t, \r and \\ are escapes ──
 
 -- what a backslash and then this byte stand for: n for an LF (10), t for a tab (9), r for a CR (13), a second backslash (92) for one; none for any other byte
 abbrev pub meant_by : ℕ → Option ℕ
-meant_by b = cond (b == 110) (Some 10) (cond (b == 116) (Some 9) (cond (b == 114) (Some 13) (cond (b == 92) (Some 92) None)))
+meant_by b =
+    if b == 110 then Some 10
+    else (if b == 116 then Some 9
+    else (if b == 114 then Some 13
+    else (if b == 92 then Some 92
+    else None)))
 
 -- a byte in front of more bytes, if both are there
 abbrev pub in_front : Option ℕ → Option Bytes → Option Bytes
@@ -33,20 +35,25 @@ in_front (Some b) (Some bs) = Some (b ∷ bs)
 -- backslash
 abbrev pub unescaped : Bytes → Option Bytes
 unescaped [] = Some []
-unescaped (b ∷ []) = cond (b == 92) None (Some (b ∷ []))
-unescaped (b ∷ (e ∷ bs)) = cond (b == 92) (in_front (meant_by e) (unescaped bs)) (in_front (Some b) (unescaped (e ∷ bs)))
+unescaped (b ∷ []) = if b == 92 then None else Some (b ∷ [])
+unescaped (b ∷ (e ∷ bs)) = if b == 92 then in_front (meant_by e) (unescaped bs) else in_front (Some b) (unescaped (e ∷ bs))
 
--- none only where the text has a wrong escape; else a byte and a shorter rest, and the text stands for the byte and then what the rest stands for, or has a
--- wrong escape where the rest has one
-abbrev pub ReadsFirst : Bytes → Option (ℕ × Bor Bytes) → Type 0
-ReadsFirst text None = unescaped text ≡ None
-ReadsFirst text (Some (b, rest)) = (unescaped text ≡ in_front (Some b) (unescaped rest.now)) × (length rest.now < length text)
+-- none only at the end; an unknown escape only where the text has one; else a byte and a shorter rest, and the text stands for the byte and then what the
+-- rest stands for, or has an unknown escape where the rest has one
+abbrev pub ReadsFirst : Bytes → Result (Option (ℕ × Bor Bytes)) Fault → Type 0
+ReadsFirst text (Ok None) = text ≡ []
+ReadsFirst text (Ok (Some (b, rest))) = (unescaped text ≡ in_front (Some b) (unescaped rest.now)) × (length rest.now < length text)
+ReadsFirst text (Err fault) = (unescaped text ≡ None) × (fault ≡ UnknownEscape)
 
 -- ── writing: only a tab, an LF and a CR change, to \t, \n and \r ──
 
 -- what is written for a byte: \t for a tab (9), \n for an LF (10), \r for a CR (13), any other byte itself
 abbrev pub escaped_byte : ℕ → Bytes
-escaped_byte b = cond (b == 9) (92 ∷ 116 ∷ []) (cond (b == 10) (92 ∷ 110 ∷ []) (cond (b == 13) (92 ∷ 114 ∷ []) (b ∷ [])))
+escaped_byte b =
+    if b == 9 then 92 ∷ 116 ∷ []
+    else (if b == 10 then 92 ∷ 110 ∷ []
+    else (if b == 13 then 92 ∷ 114 ∷ []
+    else b ∷ []))
 
 -- what is written for some bytes: what is written for each, joined
 abbrev pub escaped : Bytes → Bytes

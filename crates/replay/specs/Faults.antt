@@ -1,8 +1,13 @@
--- What is printed of a line that is wrong.
-use Rattle.std.specs.Prelude.{◌++◌, codes, decimal}
+-- Why a line was not read, and what is printed of that.
+use Rattle.std.specs.Prelude.{◌≡◌, ℕ, ◌++◌, Ok, Err, codes, decimal, Result}
 use Rattle.replay.specs.declared.fault.Fault.{Fault}
-use Rattle.replay.specs.declared.fault.Fault.TheVariants.{UnknownWord, NotYet, EmptyName, UnknownEscape, Memory}
+use Rattle.replay.specs.declared.fault.Fault.TheVariants.{UnknownWord, NotYet, EmptyName, UnknownEscape}
+use Rattle.replay.specs.declared.fault.LineError.{LineError}
+use Rattle.replay.specs.declared.fault.LineError.TheVariants.{Wrong, Memory}
 use Rattle.replay.specs.declared.fault.BadLine.{BadLine}
+use Rattle.replay.specs.declared.fault.NoMemory.{NoMemory}
+use Rattle.replay.specs.declared.fault.ReadError.{ReadError}
+use Rattle.replay.specs.declared.fault.ReadError.TheVariants as read
 use Rattle.replay.specs.Bytes.{Bytes}
 use Rattle.replay.specs.Keywords.{name_of}
 
@@ -12,8 +17,22 @@ message UnknownWord = codes "its first word is unknown"
 message (NotYet k) = codes "\"" ++ (name_of k ++ codes "\" is not read yet")
 message EmptyName = codes "rule names are separated by one space"
 message UnknownEscape = codes "a \"\\\" is not followed by n, t, r or \"\\\""
-message Memory = codes "there is no memory left"
 
 -- what is printed for a wrong line, without an LF: `line NUMBER: MESSAGE`
 abbrev pub bad_line : BadLine → Bytes
 bad_line b = codes "line " ++ (decimal b.number ++ (codes ": " ++ message b.fault))
+
+-- what is printed where memory was short at a line, without an LF
+abbrev pub no_memory : NoMemory → Bytes
+no_memory n = codes "line " ++ (decimal n.line ++ codes ": there is no memory left")
+
+-- why a recording was not read, by the number of the line that was not, and why it was not: the fault, or that memory was short
+abbrev pub at_line : ℕ → LineError → ReadError
+at_line number (Wrong fault) = read.BadLine (record { number = number; fault = fault })
+at_line number Memory = read.NoMemory (record { line = number })
+
+-- what a call answers stands for the value that is meant, or is the fault that is meant, or says that memory was short, whatever is meant
+abbrev pub Gives : {X Y : Type 0} → (Y → X) → Result X Fault → Result Y LineError → Type 0
+Gives value meant (Ok y) = meant ≡ Ok (value y)
+Gives value meant (Err (Wrong fault)) = meant ≡ Err fault
+Gives value meant (Err Memory) = Unit {0}

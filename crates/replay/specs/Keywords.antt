@@ -1,6 +1,8 @@
 -- The first word of a line.
-use Rattle.std.specs.Prelude.{cond, List, [], ◌∷◌, Some, None, codes, Option}
+use Rattle.std.specs.Prelude.{◌≡◌, List, [], ◌∷◌, Some, None, codes, Option, Result, MatchResult, find}
 use Rattle.std.specs.Str.{bytes_eq}
+use Rattle.replay.specs.declared.fault.Fault.{Fault}
+use Rattle.replay.specs.declared.fault.Fault.TheVariants.{UnknownWord}
 use Rattle.replay.specs.declared.keyword.Keyword.{Keyword}
 use Rattle.replay.specs.declared.keyword.Keyword.TheVariants.{Text, Rules, Strategy, Recovering, Listener, Room, Enter, Recursion, State, Alternative, Extend, GiveUp, Match, Any, Consume, Leave, Unroll, Passes, Child, Parent, Nth, Leaf, TextOf, Print, Walk}
 use Rattle.replay.specs.Bytes.{Bytes}
@@ -42,9 +44,12 @@ keywords =
 
 -- the first of some keywords that a word is, or none if it is none of them
 abbrev pub keyword_in : List Keyword → Bytes → Option Keyword
-keyword_in [] word = None
-keyword_in (k ∷ ks) word = cond (bytes_eq (name_of k) word) (Some k) (keyword_in ks word)
+keyword_in ks word = find (λ k. bytes_eq (name_of k) word) ks
 
 -- the keyword that a word is, if it is one
 abbrev pub keyword : Bytes → Option Keyword
 keyword = keyword_in keywords
+
+-- a word that is a keyword gives that keyword, and any other word the fault that it is unknown
+abbrev pub GivesKeyword : Bytes → Result Keyword Fault → Type 0
+GivesKeyword word r = MatchResult r (λ k. keyword word ≡ Some k) (λ fault. (keyword word ≡ None) × (fault ≡ UnknownWord))

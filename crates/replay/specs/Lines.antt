@@ -1,5 +1,6 @@
 -- What a line of a recording says.
-use Rattle.std.specs.Prelude.{ℕ, Bool, true, false, cond, ◌&&◌, ◌||◌, [], ◌∷◌, Some, None, Ok, Err, codes, Option, Result, ◌==◌}
+use Rattle.std.specs.Prelude.{ℕ, Bool, false, if◌then◌else◌, ◌||◌, [], ◌∷◌, Some, None, Ok, Err, codes, Option, Result, ◌==◌}
+use Rattle.std.specs.List.{list_all}
 use Rattle.std.specs.Option.{option_map, unwrap_or}
 use Rattle.std.specs.Str.{bytes_eq}
 use Rattle.replay.specs.declared.keyword.Keyword.{Keyword}
@@ -16,8 +17,7 @@ is_space b = b == 32 || b == 9
 
 -- nothing but spaces and tabs
 abbrev pub is_blank : Bytes → Bool
-is_blank [] = true
-is_blank (b ∷ bs) = is_space b && is_blank bs
+is_blank line = list_all is_space line
 
 -- a line that begins with a # (35)
 abbrev pub is_comment : Bytes → Bool
@@ -37,12 +37,13 @@ pub data Saying : Type 0 where
 abbrev pub by_keyword : Option Keyword → Option Bytes → Saying
 by_keyword None rest = wrong UnknownWord
 by_keyword (Some k) rest =
-    cond (bytes_eq (name_of k) (codes "text")) (some_text (unwrap_or rest []))
-    (cond (bytes_eq (name_of k) (codes "rules")) (some_rules rest) (not_yet k))
+    if bytes_eq (name_of k) (codes "text") then some_text (unwrap_or rest [])
+    else (if bytes_eq (name_of k) (codes "rules") then some_rules rest
+    else not_yet k)
 
 -- what a line says: nothing if it is blank or a comment, else by its first word
 abbrev pub says : Bytes → Saying
-says line = cond (is_blank line || is_comment line) nothing (by_keyword (keyword (up_to 32 line)) (behind 32 line))
+says line = if is_blank line || is_comment line then nothing else by_keyword (keyword (up_to 32 line)) (behind 32 line)
 
 -- what a line that the code has read says; a fault says that the line is wrong
 abbrev pub meaning : Result Line Fault → Saying

@@ -1,8 +1,10 @@
 -- What is printed of a text.
-use Rattle.std.specs.Prelude.{◌≡◌, zero, suc, ◌+◌, ◌≤◌, Bool, true, false, cond, not, List, [], ◌∷◌, ◌++◌, length, take, drop, ℤ, pos, negsuc, vec_items, codes, decimal, count_by, ◌==◌, nat_le}
+use Rattle.std.specs.Prelude.{◌≡◌, ◌+◌, ◌≤◌, Bool, if◌then◌else◌, not, List, [], ◌∷◌, ◌++◌, length, pos, vec_items, codes, decimal, count_by, ◌==◌, nat_le}
 use Rattle.std.specs.Fmt.{signed_decimal}
 use Rattle.std.specs.List.{flat_map}
+use Rattle.std.specs.Ordering.{int_eq}
 use Rattle.input.specs.declared.token.Token.{Token}
+use Rattle.input.specs.Law.{bytes_at}
 use Rattle.input.specs.Scanned.{scanned, end_at}
 use Rattle.replay.specs.declared.report.Report.{Report}
 use Rattle.replay.specs.declared.report.Tally.{Tally}
@@ -11,6 +13,10 @@ use Rattle.replay.specs.Bytes.{Bytes, escaped}
 -- what a report holds
 abbrev pub printed : Report → Bytes
 printed r = vec_items r.bytes
+
+-- the second report holds what the first one does, and then these bytes
+abbrev pub Adds : Report → Report → Bytes → Type 0
+Adds before after bytes = printed after ≡ printed before ++ bytes
 
 -- some bytes, and then an LF (10)
 abbrev pub line_of : Bytes → Bytes
@@ -28,21 +34,11 @@ numbers_of t =
 abbrev pub token_line : Token → Bytes → Bytes
 token_line t part = numbers_of t ++ (escaped part ++ line_of (codes "'"))
 
--- the part of a text that a token has
-abbrev pub part_of : Bytes → Token → Bytes
-part_of text t = take t.len (drop t.offset text)
-
--- a line for each token
+-- a line for each token, with the part of the text that it has
 abbrev pub token_lines : Bytes → List Token → Bytes
-token_lines text = flat_map (λ t. token_line t (part_of text t))
+token_lines text = flat_map (λ t. token_line t (bytes_at text t))
 
 -- ── how many tokens there are, without the end ──
-
--- whether a number is 0
-abbrev pub is_zero : ℤ → Bool
-is_zero (pos zero) = true
-is_zero (pos (suc n)) = false
-is_zero (negsuc n) = false
 
 -- whether a token is on channel 0
 abbrev pub is_visible : Token → Bool
@@ -54,7 +50,7 @@ is_hidden t = not (is_visible t)
 
 -- whether a token is of type 0
 abbrev pub is_unknown : Token → Bool
-is_unknown t = is_zero t.ttype
+is_unknown t = int_eq t.ttype (pos 0)
 
 -- how many of some tokens are visible, hidden and unknown
 abbrev pub tally_of : List Token → Tally
@@ -62,7 +58,7 @@ tally_of ts = record { visible = count_by is_visible ts; hidden = count_by is_hi
 
 -- a tally after one more token was counted
 abbrev pub counted : Tally → Token → Tally
-counted n t = record { visible = n.visible + cond (is_visible t) 1 0; hidden = n.hidden + cond (is_hidden t) 1 0; unknown = n.unknown + cond (is_unknown t) 1 0 }
+counted n t = record { visible = n.visible + (if is_visible t then 1 else 0); hidden = n.hidden + (if is_hidden t then 1 else 0); unknown = n.unknown + (if is_unknown t then 1 else 0) }
 
 -- each of a tally's three numbers is at most 65,536
 pub record Few (n : Tally) : Type 0 where
@@ -82,18 +78,14 @@ tally_line t =
 abbrev pub end_of : Bytes → Token
 end_of text = end_at (length (scanned text)) (length text)
 
--- behind what was printed before stand the lines of the text's tokens and of its end; the tally has counted these tokens, and each of its numbers is at
--- most 65,536
-pub record Listed (text before after : Bytes) (tally : Tally) : Type 0 where
-  pub lines : after ≡ before ++ (token_lines text (scanned text) ++ token_line (end_of text) [])
-  pub counts : tally ≡ tally_of (scanned text)
-  pub few : Few tally
+-- a line for each token of a text, and then one for its end
+abbrev pub listing : Bytes → Bytes
+listing text = token_lines text (scanned text) ++ token_line (end_of text) []
 
 -- all that is printed for a text: the line `tokens`, a line for each token and for the end, and the line of the tally
 abbrev pub tokens_printed : Bytes → Bytes
-tokens_printed text =
-    line_of (codes "tokens") ++ ((token_lines text (scanned text) ++ token_line (end_of text) []) ++ line_of (tally_line (tally_of (scanned text))))
+tokens_printed text = line_of (codes "tokens") ++ (listing text ++ line_of (tally_line (tally_of (scanned text))))
 
 -- what is printed for some bytes: their tokens, or a refusal where they are more than the 65,536 that a text may have
 abbrev pub text_printed : Bytes → Bytes
-text_printed text = cond (nat_le (length text) 65536) (tokens_printed text) (line_of (codes "text -> refused 3 (out of range)"))
+text_printed text = if nat_le (length text) 65536 then tokens_printed text else line_of (codes "text -> refused 3 (out of range)")

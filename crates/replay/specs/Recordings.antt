@@ -1,10 +1,13 @@
 -- What a recording says: its text and its rule names.
-use Rattle.std.specs.Prelude.{◌≡◌, ℕ, ◌+◌, Bool, true, false, cond, List, [], ◌∷◌, ◌++◌, map, Some, None, Ok, Err, vec_items, Option, Result, ◌==◌}
+use Rattle.std.specs.Prelude.{◌≡◌, ℕ, ◌+◌, Bool, if◌then◌else◌, List, [], ◌∷◌, ◌++◌, length, map, Some, None, Ok, Err, vec_items, Option, Result, IsOkAnd, ok_or, ◌==◌, nat_lt}
 use Rattle.std.specs.Borrow.{Bor}
+use Rattle.std.specs.List.{list_all, onto_first, slice_split}
 use Rattle.std.specs.Option.{option_map, unwrap_or}
 use Rattle.replay.specs.declared.fault.Fault.{Fault}
-use Rattle.replay.specs.declared.fault.Fault.TheVariants.{UnknownWord, NotYet, EmptyName, UnknownEscape, Memory}
+use Rattle.replay.specs.declared.fault.Fault.TheVariants.{NotYet, EmptyName, UnknownEscape}
 use Rattle.replay.specs.declared.fault.BadLine.{BadLine}
+use Rattle.replay.specs.declared.fault.ReadError.{ReadError}
+use Rattle.replay.specs.declared.fault.ReadError.TheVariants as read
 use Rattle.replay.specs.declared.recording.Head.{Head}
 use Rattle.replay.specs.declared.recording.Recording.{Recording}
 use Rattle.replay.specs.Bytes.{Bytes, unescaped}
@@ -12,28 +15,20 @@ use Rattle.replay.specs.Lines.{Saying, nothing, some_text, some_rules, not_yet, 
 
 -- ── cut at each mark ──
 
--- puts a byte in front of the first of some pieces, and makes it the only piece where there is none
-abbrev pub onto : ℕ → List Bytes → List Bytes
-onto b [] = (b ∷ []) ∷ []
-onto b (piece ∷ more) = (b ∷ piece) ∷ more
-
 -- the lines of an input: each ends before an LF (10), and the last one there or where the input ends
 abbrev pub lines : Bytes → List Bytes
 lines [] = []
-lines (b ∷ bs) = cond (b == 10) ([] ∷ lines bs) (onto b (lines bs))
+lines (b ∷ bs) = if b == 10 then [] ∷ lines bs else onto_first b (lines bs)
 
 -- the pieces between spaces (32), one more than there are spaces, of which any may be empty
 abbrev pub words : Bytes → List Bytes
-words [] = [] ∷ []
-words (b ∷ bs) = cond (b == 32) ([] ∷ words bs) (onto b (words bs))
+words bytes = slice_split (λ b. b == 32) bytes
 
 -- ── the names of rules, of which none may be empty ──
 
 -- whether each of some names has a byte
 abbrev pub none_empty : List Bytes → Bool
-none_empty [] = true
-none_empty ([] ∷ more) = false
-none_empty ((b ∷ bs) ∷ more) = none_empty more
+none_empty names = list_all (λ name. nat_lt 0 (length name)) names
 
 -- the words of some bytes (of none, one empty word); no words where there is nothing to cut
 abbrev pub words_if_any : Option Bytes → List Bytes
@@ -43,7 +38,7 @@ words_if_any (Some bytes) = words bytes
 -- the words of some bytes as names, refused if any is empty, as where there are no bytes, two spaces together or a space at an end; no names where there is
 -- nothing to cut
 abbrev pub names : Option Bytes → Result (List Bytes) Fault
-names bytes = cond (none_empty (words_if_any bytes)) (Ok (words_if_any bytes)) (Err EmptyName)
+names bytes = if none_empty (words_if_any bytes) then Ok (words_if_any bytes) else Err EmptyName
 
 -- ── line by line ──
 
@@ -57,10 +52,10 @@ abbrev pub continued : Option Bytes → Bytes → Bytes
 continued None line = line
 continued (Some text) line = text ++ (10 ∷ line)
 
--- what is said after one more text line, whose escapes were read; none stands for an unknown escape
-abbrev pub with_text : Said → Option Bytes → Result Said Fault
-with_text s None = Err UnknownEscape
-with_text s (Some line) = Ok (record { text = Some (continued s.text line); rules = s.rules })
+-- what is said after one more text line, whose escapes were read, unless one of them is unknown
+abbrev pub with_text : Said → Result Bytes Fault → Result Said Fault
+with_text s (Ok line) = Ok (record { text = Some (continued s.text line); rules = s.rules })
+with_text s (Err fault) = Err fault
 
 -- what is said after one more rules line: its names replace earlier ones
 abbrev pub with_rules : Said → Result (List Bytes) Fault → Result Said Fault
@@ -70,7 +65,7 @@ with_rules s (Err fault) = Err fault
 -- what is said after one more line, or what is wrong with it
 abbrev pub with_line : Said → Saying → Result Said Fault
 with_line s nothing = Ok s
-with_line s (some_text bytes) = with_text s (unescaped bytes)
+with_line s (some_text bytes) = with_text s (ok_or (unescaped bytes) UnknownEscape)
 with_line s (some_rules bytes) = with_rules s (names bytes)
 with_line s (not_yet keyword) = Err (NotYet keyword)
 with_line s (wrong fault) = Err fault
@@ -103,22 +98,12 @@ bytes_in = map (λ r. r.now)
 abbrev pub said_by : Head → Said
 said_by h = record { text = option_map vec_items h.text; rules = bytes_in (vec_items h.rules) }
 
--- a fact that is claimed of every fault but want of memory, which may come at any time
-abbrev pub UnlessMemory : Fault → Type 0 → Type 0
-UnlessMemory UnknownWord P = P
-UnlessMemory (NotYet keyword) P = P
-UnlessMemory EmptyName P = P
-UnlessMemory UnknownEscape P = P
-UnlessMemory Memory P = Unit {0}
+-- a recording has this text, empty if there was no text line, and these names
+abbrev pub IsReadAs : Said → Recording → Type 0
+IsReadAs s r = (vec_items r.text ≡ unwrap_or s.text []) × (bytes_in (vec_items r.rules) ≡ s.rules)
 
--- what a call answers stands for the value that is meant, or is the fault that is meant, or is want of memory, whatever is meant
-abbrev pub Gives : {X Y : Type 0} → (Y → X) → Result X Fault → Result Y Fault → Type 0
-Gives value meant (Ok y) = meant ≡ Ok (value y)
-Gives value meant (Err fault) = UnlessMemory fault (meant ≡ Err fault)
-
--- reading an input gives what it says, with an empty text if there was no text line, or its first wrong line, or finds no memory
-abbrev pub Recorded : Result Said BadLine → Result Recording BadLine → Type 0
-Recorded (Ok s) (Ok r) = (vec_items r.text ≡ unwrap_or s.text []) × (bytes_in (vec_items r.rules) ≡ s.rules)
-Recorded (Err bad) (Ok r) = ⊥
-Recorded (Ok s) (Err bad) = UnlessMemory bad.fault ⊥
-Recorded (Err b) (Err bad) = UnlessMemory bad.fault (b ≡ bad)
+-- reading an input gives what it says, or its first wrong line, or finds that memory is short, whatever it says
+abbrev pub Recorded : Result Said BadLine → Result Recording ReadError → Type 0
+Recorded meant (Ok r) = IsOkAnd meant (λ s. IsReadAs s r)
+Recorded meant (Err (read.BadLine bad)) = meant ≡ Err bad
+Recorded meant (Err (read.NoMemory n)) = Unit {0}

@@ -1,8 +1,11 @@
 // Bytes: cut at a mark, read with escapes, and written with escapes.
-ghost use Rattle.std.specs.Prelude.{◌≡◌, ◌<◌, ◌++◌, length, IfSome, IfOk, vec_items, OnOk};
+ghost use Rattle.std.specs.Prelude.{◌≡◌, ◌<◌, ◌++◌, length, IfSome, vec_items, ok_or, OnOk};
 ghost use Rattle.std.specs.Option.{option_map};
+ghost use Rattle.replay.specs.declared.fault.Fault.TheVariants.{UnknownEscape};
 ghost use Rattle.replay.specs.Bytes.{up_to, behind, meant_by, unescaped, ReadsFirst, escaped_byte, escaped};
+ghost use Rattle.replay.specs.Faults.{Gives};
 
+use crate::fault::{Fault, LineError};
 use std::alloc::{AllocError, Global};
 
 // The bytes up to the first mark, and those behind it if there is one.
@@ -11,12 +14,10 @@ pub fn split_once(bytes: &[u8], mark: u8) -> (&[u8], Option<&[u8]>)
     ensures rest { option_map (λ x. x.now) result.1 ≡ behind mark bytes.now }
     ensures shorter { IfSome result.1 (λ x. length x.now < length bytes.now) }
 {
-    for (i, b) in bytes.iter().enumerate() {
-        if *b == mark {
-            return (&bytes[0..i], Some(&bytes[i + 1..]));
-        }
+    match bytes.iter().position(|b| *b == mark) {
+        Some(at) => (&bytes[..at], Some(&bytes[at + 1..])),
+        None => (bytes, None),
     }
-    (bytes, None)
 }
 
 // The byte that a backslash with this byte behind it stands for.
@@ -32,37 +33,32 @@ fn escape_meaning(b: u8) -> Option<u8>
     }
 }
 
-// The first byte that a text with escapes stands for, and what is behind it; none where its escape is unknown.
-fn first_byte(text: &[u8]) -> Option<(u8, &[u8])>
-    requires { 0 < length text.now }
+// The first byte that a text with escapes stands for, and what is behind it; none at the end.
+fn first_byte(text: &[u8]) -> Result<Option<(u8, &[u8])>, Fault>
     ensures { ReadsFirst text.now result }
 {
-    let [b, after @ ..] = text else {
-        return None;
-    };
-    if *b != b'\\' {
-        return Some((*b, after));
+    match text {
+        [] => Ok(None),
+        [b'\\', e, after @ ..] => match escape_meaning(*e) {
+            Some(b) => Ok(Some((b, after))),
+            None => Err(Fault::UnknownEscape),
+        },
+        [b'\\'] => Err(Fault::UnknownEscape),
+        [b, after @ ..] => Ok(Some((*b, after))),
     }
-    let [e, after @ ..] = after else {
-        return None;
-    };
-    Some((escape_meaning(*e)?, after))
 }
 
-// What a text with escapes stands for; none where an escape is unknown.
-pub fn unescape(heap: Global, text: &[u8]) -> Result<Option<Vec<u8>>, AllocError>
-    ensures { IfOk result (λ o. option_map vec_items o ≡ unescaped text.now) }
+// What a text with escapes stands for.
+pub fn unescape(heap: Global, text: &[u8]) -> Result<Vec<u8>, LineError>
+    ensures { Gives vec_items (ok_or (unescaped text.now) UnknownEscape) result }
 {
     let mut read = Vec::new(heap);
     let mut rest = text;
-    while !rest.is_empty() {
-        let Some((b, after)) = first_byte(rest) else {
-            return Ok(None);
-        };
+    while let Some((b, after)) = first_byte(rest)? {
         read.push(b)?;
         rest = after;
     }
-    Ok(Some(read))
+    Ok(read)
 }
 
 fn escape_byte(b: u8, out: &mut Vec<u8>) -> Result<(), AllocError>

@@ -1,35 +1,19 @@
-// What is wrong with a line of a recording.
+// Why a line of a recording was not read, and why the recording was not.
 ghost use Rattle.std.specs.Prelude.{◌≡◌, Some};
-ghost use Rattle.replay.specs.declared.fault.Fault.TheVariants.{Memory};
-ghost use Rattle.replay.specs.Faults.{message, bad_line};
+ghost use Rattle.replay.specs.declared.fault.LineError.TheVariants.{Wrong, Memory};
+ghost use Rattle.replay.specs.Faults.{message, bad_line, no_memory, at_line};
 
 use crate::keyword::Keyword;
 use std::alloc::{AllocError, AllocFailed};
 use std::fmt;
 
-#[derive(Clone, Copy)]
+// What is wrong with a line.
+#[derive(Clone, Copy, Debug, PartialEq, Eq)]
 pub enum Fault {
     UnknownWord,
     NotYet(Keyword),
     EmptyName,
     UnknownEscape,
-    Memory,
-}
-
-impl From<AllocError> for Fault {
-    ghost from_gives = { λ _ r. r ≡ Memory };
-
-    fn from(_e: AllocError) -> Fault {
-        Fault::Memory
-    }
-}
-
-impl<T: Drop> From<AllocFailed<T>> for Fault {
-    ghost from_gives = { λ _ r. r ≡ Memory };
-
-    fn from(_e: AllocFailed<T>) -> Fault {
-        Fault::Memory
-    }
 }
 
 impl fmt::Display for Fault {
@@ -38,19 +22,61 @@ impl fmt::Display for Fault {
     fn fmt<W: fmt::Write>(&self, f: &mut fmt::Formatter<W>) -> fmt::Result {
         match self {
             Fault::UnknownWord => f.write_str("its first word is unknown"),
-            Fault::NotYet(keyword) => {
-                let name = keyword.name();
-                write!(f, "\"{name}\" is not read yet")
-            }
+            Fault::NotYet(keyword) => write!(f, "\"{keyword}\" is not read yet"),
             Fault::EmptyName => f.write_str("rule names are separated by one space"),
             Fault::UnknownEscape => f.write_str("a \"\\\" is not followed by n, t, r or \"\\\""),
-            Fault::Memory => f.write_str("there is no memory left"),
+        }
+    }
+}
+
+// Why a line was not read: it is wrong, or memory was short.
+#[derive(Clone, Copy, Debug, PartialEq, Eq)]
+pub enum LineError {
+    Wrong(Fault),
+    Memory,
+}
+
+impl From<Fault> for LineError {
+    ghost from_gives = { λ fault r. r ≡ Wrong fault };
+
+    fn from(fault: Fault) -> LineError {
+        LineError::Wrong(fault)
+    }
+}
+
+impl From<AllocError> for LineError {
+    ghost from_gives = { λ _ r. r ≡ Memory };
+
+    fn from(_e: AllocError) -> LineError {
+        LineError::Memory
+    }
+}
+
+impl<T: Drop> From<AllocFailed<T>> for LineError {
+    ghost from_gives = { λ _ r. r ≡ Memory };
+
+    fn from(_e: AllocFailed<T>) -> LineError {
+        LineError::Memory
+    }
+}
+
+impl LineError {
+    // The same with the line's number, from 1.
+    pub fn at(self, line: usize) -> ReadError
+        ensures { result ≡ at_line line self }
+    {
+        match self {
+            LineError::Wrong(fault) => ReadError::BadLine(BadLine {
+                number: line,
+                fault,
+            }),
+            LineError::Memory => ReadError::NoMemory(NoMemory { line }),
         }
     }
 }
 
 // A fault, with the line's number, from 1.
-#[derive(Clone, Copy)]
+#[derive(Clone, Copy, Debug, PartialEq, Eq)]
 pub struct BadLine {
     pub number: usize,
     pub fault: Fault,
@@ -60,8 +86,29 @@ impl fmt::Display for BadLine {
     ghost output = { λ b. Some (bad_line b) };
 
     fn fmt<W: fmt::Write>(&self, f: &mut fmt::Formatter<W>) -> fmt::Result {
-        let number = self.number;
-        let fault = self.fault;
+        let BadLine { number, fault } = *self;
         write!(f, "line {number}: {fault}")
     }
+}
+
+// Memory was short while the line with this number, from 1, was read.
+#[derive(Clone, Copy, Debug, PartialEq, Eq)]
+pub struct NoMemory {
+    pub line: usize,
+}
+
+impl fmt::Display for NoMemory {
+    ghost output = { λ n. Some (no_memory n) };
+
+    fn fmt<W: fmt::Write>(&self, f: &mut fmt::Formatter<W>) -> fmt::Result {
+        let line = self.line;
+        write!(f, "line {line}: there is no memory left")
+    }
+}
+
+// Why a recording was not read: a line is wrong, or memory was short at one.
+#[derive(Clone, Copy, Debug, PartialEq, Eq)]
+pub enum ReadError {
+    BadLine(BadLine),
+    NoMemory(NoMemory),
 }

@@ -1,8 +1,11 @@
 // The first word of a line, which says what the line is.
-ghost use Rattle.std.specs.Prelude.{◌≡◌};
-ghost use Rattle.replay.specs.Keywords.{name_of, keyword_in, keyword};
+ghost use Rattle.std.specs.Prelude.{◌≡◌, Some};
+ghost use Rattle.replay.specs.Keywords.{name_of, keyword_in, GivesKeyword};
 
-#[derive(Clone, Copy)]
+use crate::fault::Fault;
+use std::fmt;
+
+#[derive(Clone, Copy, Debug, PartialEq, Eq)]
 pub enum Keyword {
     // head lines
     Text,
@@ -38,12 +41,10 @@ pub enum Keyword {
 fn find(keywords: &[Keyword], word: &[u8]) -> Option<Keyword>
     ensures { result ≡ keyword_in keywords.now word.now }
 {
-    for k in keywords {
-        if k.name().as_bytes() == word {
-            return Some(*k);
-        }
-    }
-    None
+    keywords
+        .iter()
+        .find(|k| k.name().as_bytes() == word)
+        .copied()
 }
 
 impl Keyword {
@@ -74,13 +75,6 @@ impl Keyword {
         Keyword::Print,
         Keyword::Walk,
     ];
-
-    // The keyword that a word is, if it is one.
-    pub fn of(word: &[u8]) -> Option<Keyword>
-        ensures { result ≡ keyword word.now }
-    {
-        find(&Self::ALL, word)
-    }
 
     // The word itself.
     pub fn name(&self) -> &'static str
@@ -113,5 +107,24 @@ impl Keyword {
             Keyword::Print => "print",
             Keyword::Walk => "walk",
         }
+    }
+}
+
+// The keyword that a word is, or the fault that it is none.
+impl TryFrom<&[u8]> for Keyword {
+    type Error = Fault;
+
+    ghost try_from_gives = { λ word r. GivesKeyword word.now r };
+
+    fn try_from(word: &[u8]) -> Result<Keyword, Fault> {
+        find(&Self::ALL, word).ok_or(Fault::UnknownWord)
+    }
+}
+
+impl fmt::Display for Keyword {
+    ghost output = { λ k. Some (name_of k) };
+
+    fn fmt<W: fmt::Write>(&self, f: &mut fmt::Formatter<W>) -> fmt::Result {
+        f.write_str(self.name())
     }
 }

@@ -6,7 +6,7 @@ use crate::bytes::split_once;
 use crate::fault::Fault;
 use crate::keyword::Keyword;
 
-#[derive(Clone, Copy)]
+#[derive(Clone, Copy, Debug, PartialEq, Eq)]
 pub enum Line<'a> {
     Skipped, // blank, or a comment
     Text(&'a [u8]), // with escapes
@@ -17,18 +17,13 @@ pub enum Line<'a> {
 fn is_space(b: u8) -> bool
     ensures { result ≡ is_space b }
 {
-    b == b' ' || b == b'\t'
+    matches!(b, b' ' | b'\t')
 }
 
 fn is_blank(line: &[u8]) -> bool
     ensures { result ≡ is_blank line.now }
 {
-    for b in line {
-        if !is_space(*b) {
-            return false;
-        }
-    }
-    true
+    line.iter().all(|b| is_space(*b))
 }
 
 fn is_comment(line: &[u8]) -> bool
@@ -45,13 +40,10 @@ impl<'a> Line<'a> {
             return Ok(Line::Skipped);
         }
         let (word, rest) = split_once(line, b' ');
-        let Some(keyword) = Keyword::of(word) else {
-            return Err(Fault::UnknownWord);
-        };
-        match keyword {
+        match Keyword::try_from(word)? {
             Keyword::Text => Ok(Line::Text(rest.unwrap_or(&[]))),
             Keyword::Rules => Ok(Line::Rules(rest)),
-            other => Ok(Line::NotYet(other)),
+            keyword => Ok(Line::NotYet(keyword)),
         }
     }
 }

@@ -3,9 +3,11 @@
 
 ghost use Rattle.std.specs.Prelude.{◌≡◌, IfOk};
 ghost use Rattle.replay.specs.declared.Failure.TheVariants.{Memory, Io};
-ghost use Rattle.replay.specs.Answers.{Answers};
+ghost use Rattle.replay.specs.Answers.{answer};
 ghost use Rattle.replay.specs.Printed.{printed};
+ghost use Rattle.replay.specs.Recordings.{recorded};
 
+use crate::fault::{NoMemory, ReadError};
 use crate::recording::Recording;
 use crate::report::Report;
 use std::alloc::{AllocError, Global};
@@ -22,6 +24,7 @@ mod report;
 // Why the program could not do its work. A wrong line is answered, and is no such failure.
 #[derive(Debug, Drop)]
 enum Failure {
+    Line(NoMemory),
     Memory,
     Io(io::Error),
 }
@@ -43,13 +46,14 @@ impl From<io::Error> for Failure {
 }
 
 // All that is printed for an input.
-fn replay(heap: Global, input: &[u8]) -> Result<Report, AllocError>
-    ensures { IfOk result (λ report. Answers input.now (printed report)) }
+fn replay(heap: Global, input: &[u8]) -> Result<Report, Failure>
+    ensures { IfOk result (λ report. printed report ≡ answer (recorded input.now)) }
 {
     let mut report = Report::new(heap);
     match Recording::read(heap, input) {
         Ok(recording) => report.recording(&recording)?,
-        Err(bad) => report.bad_line(&bad)?,
+        Err(ReadError::BadLine(bad)) => report.line(bad)?,
+        Err(ReadError::NoMemory(no_memory)) => return Err(Failure::Line(no_memory)),
     }
     Ok(report)
 }
@@ -57,7 +61,15 @@ fn replay(heap: Global, input: &[u8]) -> Result<Report, AllocError>
 fn main(rt: HostRuntime) -> Result<(), Failure> {
     let mut input = Vec::new(rt.alloc());
     rt.stdin().read_to_end(&mut input)?;
-    let report = replay(rt.alloc(), input.as_slice())?;
+    let report = match replay(rt.alloc(), input.as_slice()) {
+        // Reported like a wrong line, if there is memory for that.
+        Err(Failure::Line(no_memory)) => {
+            let mut report = Report::new(rt.alloc());
+            report.line(no_memory)?;
+            report
+        }
+        other => other?,
+    };
     rt.write_all(report.bytes())?;
     Ok(())
 }

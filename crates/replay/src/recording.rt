@@ -1,13 +1,14 @@
 // A recording: what is parsed, and with what.
-ghost use Rattle.std.specs.Prelude.{◌≡◌, Ok, vec_items};
+ghost use Rattle.std.specs.Prelude.{◌≡◌, IfOk, vec_items};
 ghost use Rattle.std.specs.Option.{option_map};
+ghost use Rattle.replay.specs.Faults.{Gives};
 ghost use Rattle.replay.specs.Lines.{says};
-ghost use Rattle.replay.specs.Recordings.{bytes_in, names, continued, with_line, nothing_said, recorded, said_by, Gives, Recorded};
+ghost use Rattle.replay.specs.Recordings.{bytes_in, names, continued, with_line, nothing_said, recorded, said_by, IsReadAs, Recorded};
 
-use crate::bytes::{split_once, unescape};
-use crate::fault::{BadLine, Fault};
+use crate::bytes::unescape;
+use crate::fault::{Fault, LineError, ReadError};
 use crate::line::Line;
-use std::alloc::Global;
+use std::alloc::{AllocError, Global};
 
 #[derive(Drop)]
 pub struct Recording<'a> {
@@ -23,8 +24,8 @@ struct Head<'a> {
 }
 
 // The text after one more line of it.
-fn continue_text(text: Option<Vec<u8>>, line: Vec<u8>) -> Result<Vec<u8>, Fault>
-    ensures { Gives vec_items (Ok (continued (option_map vec_items text) line.items)) result }
+fn continue_text(text: Option<Vec<u8>>, line: Vec<u8>) -> Result<Vec<u8>, AllocError>
+    ensures { IfOk result (λ v. v.items ≡ continued (option_map vec_items text) line.items) }
 {
     let Some(mut text) = text else {
         return Ok(line);
@@ -35,18 +36,18 @@ fn continue_text(text: Option<Vec<u8>>, line: Vec<u8>) -> Result<Vec<u8>, Fault>
 }
 
 // The names of a `rules` line, of which none may be empty.
-fn read_names<'a>(heap: Global, bytes: Option<&'a [u8]>) -> Result<Vec<&'a [u8]>, Fault>
+fn read_names<'a>(heap: Global, bytes: Option<&'a [u8]>) -> Result<Vec<&'a [u8]>, LineError>
     ensures { Gives (λ v. bytes_in v.items) (names (option_map (λ x. x.now) bytes.entry)) result }
 {
     let mut read = Vec::new(heap);
-    let mut rest = bytes;
-    while let Some(bytes) = rest {
-        let (name, after) = split_once(bytes, b' ');
+    let Some(bytes) = bytes else {
+        return Ok(read);
+    };
+    for name in bytes.split(|b| *b == b' ') {
         if name.is_empty() {
-            return Err(Fault::EmptyName);
+            return Err(Fault::EmptyName.into());
         }
         read.push(name)?;
-        rest = after;
     }
     Ok(read)
 }
@@ -61,16 +62,15 @@ impl<'a> Head<'a> {
         }
     }
 
-    fn with_line(self, heap: Global, line: &'a [u8]) -> Result<Head<'a>, Fault>
+    fn with_line(self, line: &'a [u8]) -> Result<Head<'a>, LineError>
         ensures { Gives said_by (with_line (said_by self.entry) (says line.now)) result }
     {
         let Head { text, rules } = self;
+        let heap = *rules.allocator();
         match Line::read(line)? {
             Line::Skipped => Ok(Head { text, rules }),
             Line::Text(escaped) => {
-                let Some(more) = unescape(heap, escaped)? else {
-                    return Err(Fault::UnknownEscape);
-                };
+                let more = unescape(heap, escaped)?;
                 Ok(Head {
                     text: Some(continue_text(text, more)?),
                     rules,
@@ -80,41 +80,32 @@ impl<'a> Head<'a> {
                 text,
                 rules: read_names(heap, names)?,
             }),
-            Line::NotYet(keyword) => Err(Fault::NotYet(keyword)),
+            Line::NotYet(keyword) => Err(Fault::NotYet(keyword).into()),
         }
     }
 
     // Without a text line the text is empty.
-    fn recording(self, heap: Global) -> Recording<'a>
-        ensures { Recorded (Ok (said_by self.entry)) (Ok result) }
+    fn recording(self) -> Recording<'a>
+        ensures { IsReadAs (said_by self.entry) result }
     {
         let Head { text, rules } = self;
-        match text {
-            Some(text) => Recording { text, rules },
-            None => Recording {
-                text: Vec::new(heap),
-                rules,
-            },
+        let heap = *rules.allocator();
+        Recording {
+            text: text.unwrap_or(Vec::new(heap)),
+            rules,
         }
     }
 }
 
 impl<'a> Recording<'a> {
-    pub fn read(heap: Global, input: &'a [u8]) -> Result<Recording<'a>, BadLine>
+    pub fn read(heap: Global, input: &'a [u8]) -> Result<Recording<'a>, ReadError>
         ensures { Recorded (recorded input.now) result }
     {
         let mut head = Head::new(heap);
-        let mut rest = input;
-        let mut number: usize = 0;
-        while !rest.is_empty() {
-            number += 1;
-            let (line, after) = split_once(rest, b'\n');
-            head = match head.with_line(heap, line) {
-                Ok(head) => head,
-                Err(fault) => return Err(BadLine { number, fault }),
-            };
-            rest = after.unwrap_or(&[]);
+        // An LF at the end cuts off one more piece: it is empty, so it says nothing.
+        for (i, line) in input.split(|b| *b == b'\n').enumerate() {
+            head = head.with_line(line).map_err(|e| e.at(i + 1))?;
         }
-        Ok(head.recording(heap))
+        Ok(head.recording())
     }
 }

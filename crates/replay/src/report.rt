@@ -1,81 +1,88 @@
 // What the program prints: built in memory, then written by one call.
-ghost use Rattle.std.specs.Prelude.{◌≡◌, [], ◌++◌, IfOk, string_bytes, codes, OnOk};
+ghost use Rattle.std.specs.Prelude.{◌≡◌, [], ◌++◌, IfOk, IfSome, Some, codes, OnOk};
+ghost use Rattle.std.specs.Iterator.{YieldsFirst};
+ghost use Rattle.input.specs.Law.{bytes_at};
+ghost use Rattle.input.specs.Scanned.{scanned};
+ghost use Rattle.input.specs.Scanner.{scanner_stream};
 ghost use Rattle.input.specs.Text.{bytes_of};
-ghost use Rattle.replay.specs.Faults.{bad_line};
-ghost use Rattle.replay.specs.Printed.{printed, line_of, numbers_of, token_line, part_of, Few, counted, tally_line, Listed, tokens_printed, text_printed};
+ghost use Rattle.replay.specs.Printed.{printed, Adds, line_of, token_line, Few, counted, tally_of, tally_line, listing, tokens_printed, text_printed};
 
 use crate::bytes::escape;
-use crate::fault::BadLine;
 use crate::recording::Recording;
 use input::scanner::Scanner;
 use input::text::{Text, TextTooLong};
 use input::token::Token;
 use input::token_stream::TokenStream;
+use input::token_type::TokenType;
 use std::alloc::{AllocError, Global};
+use std::fmt;
 
 // How many tokens there are, without the end.
-#[derive(Clone, Copy)]
+#[derive(Clone, Copy, Debug, Default, PartialEq, Eq)]
 struct Tally {
-    visible: usize, // on channel 0
-    hidden: usize,
-    unknown: usize, // of type 0
+    visible: u32, // on channel 0
+    hidden: u32,
+    unknown: u32, // of type 0
 }
 
 impl Tally {
+    // A text keeps the bound. A tally cannot keep it by itself, since each token that is counted adds one.
     fn count(&mut self, token: &Token)
         requires { Few self.old }
         ensures { self.new ≡ counted self.old token.now }
     {
-        if token.channel == 0 {
+        if token.channel == Token::DEFAULT_CHANNEL {
             self.visible += 1;
         } else {
             self.hidden += 1;
         }
-        if token.ttype == 0 {
+        if token.ttype == TokenType::Unknown.into() {
             self.unknown += 1;
         }
     }
+}
 
-    fn line(&self, heap: Global) -> Result<String, AllocError>
-        requires { Few self.now }
-        ensures { IfOk result (λ s. string_bytes s ≡ tally_line self.now) }
-    {
+impl fmt::Display for Tally {
+    ghost output = { λ t. Some (tally_line t) };
+
+    fn fmt<W: fmt::Write>(&self, f: &mut fmt::Formatter<W>) -> fmt::Result {
         let Tally {
             visible,
             hidden,
             unknown,
         } = *self;
-        let all = visible + hidden;
-        format!(in heap;
+        let all = u64::from(visible) + u64::from(hidden);
+        write!(
+            f,
             "{all} tokens, {visible} on channel 0, {hidden} on channel 1, {unknown} unknown"
         )
     }
 }
 
-// The part of a text that a token has.
-fn part_of<'a>(text: &'a [u8], token: &Token) -> &'a [u8]
-    ensures { result.now ≡ part_of text.now token.now }
+// Moves past the current token and gives it, or nothing at the end. An `Iterator` would have to say in a relation of its own that the end stays, which is
+// printed after the loop.
+fn next_token(scanner: &mut Scanner) -> Option<Token>
+    ensures tokens { YieldsFirst (λ s. (scanner_stream s).ahead) scanner.old result scanner.new }
+    ensures end { (scanner_stream scanner.new).end ≡ (scanner_stream scanner.old).end }
 {
-    let rest = &text[(token.offset as usize).min(text.len())..];
-    &rest[0..(token.len as usize).min(rest.len())]
+    let token = scanner.current();
+    if token.is_end() {
+        return None;
+    }
+    scanner.consume();
+    Some(token)
 }
 
-fn numbers_of(heap: Global, token: &Token) -> Result<String, AllocError>
-    ensures { IfOk result (λ s. string_bytes s ≡ numbers_of token.now) }
+// The part of a text that a token has, cut where the text ends.
+fn part_of<'a>(text: &'a [u8], token: &Token) -> &'a [u8]
+    ensures { result.now ≡ bytes_at text.now token.now }
 {
-    let Token {
-        ttype,
-        channel,
-        index,
-        offset,
-        len,
-    } = *token;
-    format!(in heap; "{index} {ttype} {channel} {offset} {len} '")
+    let rest = text.get(token.offset as usize..).unwrap_or(&[]);
+    rest.get(..token.len as usize).unwrap_or(rest)
 }
 
 #[derive(Drop)]
 pub struct Report {
-    heap: Global,
     bytes: Vec<u8>,
 }
 
@@ -84,7 +91,6 @@ impl Report {
         ensures { printed result ≡ [] }
     {
         Report {
-            heap,
             bytes: Vec::new(heap),
         }
     }
@@ -95,71 +101,69 @@ impl Report {
         self.bytes.as_slice()
     }
 
-    fn line(&mut self, line: &str) -> Result<(), AllocError>
-        ensures { OnOk result (printed self.new ≡ printed self.old ++ line_of line.now) }
+    // By a `String`: std's `Write` for a `Vec` answers with an `io::Error`, which may be another one than want of memory.
+    fn print<D: fmt::Display + Drop>(&mut self, text: D) -> Result<(), AllocError>
+        ensures { OnOk result (IfSome (D.output text) (Adds self.old self.new)) }
     {
-        self.bytes.extend_from_slice(line.as_bytes())?;
-        self.bytes.push(b'\n')?;
-        Ok(())
+        let text = format!(in *self.bytes.allocator(); "{text}")?;
+        self.bytes.extend_from_slice(text.as_bytes())
     }
 
-    pub fn bad_line(&mut self, bad: &BadLine) -> Result<(), AllocError>
-        ensures { OnOk result (printed self.new ≡ printed self.old ++ line_of (bad_line bad.now)) }
+    pub fn line<D: fmt::Display + Drop>(&mut self, text: D) -> Result<(), AllocError>
+        ensures { OnOk result (IfSome (D.output text) (λ bytes. Adds self.old self.new (line_of bytes))) }
     {
-        let line = format!(in self.heap; "{bad}")?;
-        self.line(line.as_str())
+        self.print(format_args!("{text}\n"))
     }
 
     fn refusal(&mut self, refusal: &TextTooLong) -> Result<(), AllocError>
-        ensures { OnOk result (printed self.new ≡ printed self.old ++ line_of (codes "text -> refused 3 (out of range)")) }
+        ensures { OnOk result (Adds self.old self.new (line_of (codes "text -> refused 3 (out of range)"))) }
     {
         let number = refusal.number();
-        let line = format!(in self.heap; "text -> refused {number} (out of range)")?;
-        self.line(line.as_str())
+        self.line(format_args!("text -> refused {number} ({refusal})"))
     }
 
     fn token(&mut self, token: &Token, part: &[u8]) -> Result<(), AllocError>
-        ensures { OnOk result (printed self.new ≡ printed self.old ++ token_line token.now part.now) }
+        ensures { OnOk result (Adds self.old self.new (token_line token.now part.now)) }
     {
-        let numbers = numbers_of(self.heap, token)?;
-        self.bytes.extend_from_slice(numbers.as_bytes())?;
+        let Token {
+            ttype,
+            channel,
+            index,
+            offset,
+            len,
+        } = *token;
+        self.print(format_args!("{index} {ttype} {channel} {offset} {len} '"))?;
         escape(part, &mut self.bytes)?;
         self.line("'")
     }
 
     // The tokens of a text on both channels, the end last.
     fn token_lines(&mut self, text: Text) -> Result<Tally, AllocError>
-        ensures { IfOk result (λ t. Listed (bytes_of text.entry) (printed self.old) (printed self.new) t) }
+        ensures lines { OnOk result (Adds self.old self.new (listing (bytes_of text.entry))) }
+        ensures tally { IfOk result (λ tally. tally ≡ tally_of (scanned (bytes_of text.entry))) }
     {
         let bytes = text.bytes();
         let mut scanner = Scanner::new(text);
-        let mut tally = Tally {
-            visible: 0,
-            hidden: 0,
-            unknown: 0,
-        };
-        let mut token = scanner.current();
-        while !token.is_end() {
+        let mut tally = Tally::default();
+        while let Some(token) = next_token(&mut scanner) {
             self.token(&token, part_of(bytes, &token))?;
             tally.count(&token);
-            scanner.consume();
-            token = scanner.current();
         }
-        self.token(&token, &[])?;
+        self.token(&scanner.current(), &[])?;
         Ok(tally)
     }
 
     fn tokens(&mut self, text: Text) -> Result<(), AllocError>
-        ensures { OnOk result (printed self.new ≡ printed self.old ++ tokens_printed (bytes_of text.entry)) }
+        ensures { OnOk result (Adds self.old self.new (tokens_printed (bytes_of text.entry))) }
     {
         self.line("tokens")?;
         let tally = self.token_lines(text)?;
-        let line = tally.line(self.heap)?;
-        self.line(line.as_str())
+        self.line(tally)
     }
 
+    #[tactic(auto, using(crate::proofs::Answering::text_fits))]
     pub fn recording(&mut self, recording: &Recording) -> Result<(), AllocError>
-        ensures { OnOk result (printed self.new ≡ printed self.old ++ text_printed recording.now.text.items) }
+        ensures { OnOk result (Adds self.old self.new (text_printed recording.now.text.items)) }
     {
         match Text::new(recording.text.as_slice()) {
             Ok(text) => self.tokens(text),

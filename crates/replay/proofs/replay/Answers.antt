@@ -1,17 +1,30 @@
-use Rattle.std.proofs.Common.{ap, ◌∙◌}
-use Rattle.replay.specs.Printed.{printed}
-use Rattle.replay.proofs.Answering.{answers_text, answers_bad}
+use Rattle.std.proofs.Common.{◌≡◌, Ok, Err, vec_items, Result, sym, ap, ◌∙◌}
+use Rattle.replay.specs.declared.fault.BadLine.{BadLine}
+use Rattle.replay.specs.declared.recording.Recording.{Recording}
+use Rattle.replay.specs.Answers.{answer}
+use Rattle.replay.specs.Bytes.{Bytes}
+use Rattle.replay.specs.Faults.{bad_line}
+use Rattle.replay.specs.Printed.{printed, line_of, text_printed}
+use Rattle.replay.specs.Recordings.{Said, recorded, Recorded}
 use Rattle.replay.proofs.Prints.{from_nothing}
 use Rattle.replay.proofs.replay.Goals as goal
-use Rattle.replay.proofs.replay.Goals.{in-Ok+in_ok-recording-in-Ok, in-Err+in_ok-bad_line-in-Err}
+use Rattle.replay.proofs.replay.Goals.{in-Ok+in_ok-recording-in-Ok, in-Err-BadLine+in_ok-line-in-Err-BadLine}
+
+-- what is printed where a recording was read, and where a line is wrong
+read_well : (meant : Result Said BadLine) (r : Recording) (out : Bytes) → Recorded meant (Ok r) → out ≡ text_printed (vec_items r.text) → out ≡ answer meant
+read_well (Ok s) r out done is = is ∙ ap text_printed done.0
+read_well (Err bad) r out done is = absurd done
+
+refused_well : (meant : Result Said BadLine) (bad : BadLine) (out : Bytes) → meant ≡ Err bad → out ≡ line_of (bad_line bad) → out ≡ answer meant
+refused_well meant bad out is printed = printed ∙ sym (ap answer is)
 
 pub returns : goal.returns
 returns c =
     elim c.match-read.branch [
       | in-Ok+in_ok-recording-in-Ok w ↦
-          answers_text c.args.input.now _ w.in-Ok.recording w.in-Ok.ensures
+          read_well (recorded c.args.input.now) w.in-Ok.recording _ w.in-Ok.ensures
           (ap printed w.report-is ∙ from_nothing _ _ _ w.in_ok-recording-in-Ok.ensures c.new-report.ensures)
-      | in-Err+in_ok-bad_line-in-Err w ↦
-          answers_bad c.args.input.now _ w.in-Err.bad w.in-Err.ensures
-          (ap printed w.report-is ∙ from_nothing _ _ _ w.in_ok-bad_line-in-Err.ensures c.new-report.ensures)
+      | in-Err-BadLine+in_ok-line-in-Err-BadLine w ↦
+          refused_well (recorded c.args.input.now) w.in-Err-BadLine.bad _ (rw w.in-Err-BadLine.field-0-is at w.in-Err-BadLine.ensures)
+          (ap printed w.report-is ∙ from_nothing _ _ _ w.in_ok-line-in-Err-BadLine.ensures c.new-report.ensures)
     ]

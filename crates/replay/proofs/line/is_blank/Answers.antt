@@ -1,13 +1,10 @@
-use Rattle.std.proofs.Common.{sym, ◌∙◌}
-use Rattle.replay.proofs.Sayings.{blank_there, blank_all}
+use Rattle.std.proofs.Common.{rules, tests}
+use Rattle.std.proofs.lemmas.Iterator.{YieldsList-from_slice}
+use Rattle.std.proofs.lemmas.Iterator.Search.{all_from_yields_List}
+use Rattle.replay.specs.Lines.{is_space}
 use Rattle.replay.proofs.line.is_blank.Goals as goal
 
-pub returns-then-not-is_space : goal.returns-then-not-is_space
-returns-then-not-is_space c =
-    sym (c.loop-b.invariant ∙ blank_there c.args.line.now c.loop-b.b-index _ c.loop-b-test.true (sym c.if-not-is_space.ensures))
-
-pub loop-b-preserved : goal.loop-b-preserved
-loop-b-preserved c = c.loop-b.invariant ∙ blank_there c.args.line.now c.loop-b.b-index _ c.loop-b-test.true (sym c.if-not-is_space.ensures)
-
 pub returns : goal.returns
-returns c = sym (c.loop-b.invariant ∙ blank_all c.args.line.now c.loop-b.b-index c.loop-b-test.false)
+returns c =
+    all_from_yields_List is_space _ _ c.all.result c.all.ensures.ran (YieldsList-from_slice c.args.line.now cc)
+    (λ x b q k. search (rules, tests))
