@@ -1,35 +1,58 @@
--- Each stream's meaning is well formed: the proofs that its implementation hands over with the meaning.
-use Rattle.std.specs.Prelude.{◌≡◌, Bool, true, false, cond, List, [], ◌∷◌, ◌==◌}
-use Rattle.std.proofs.lemmas.Bool.{and_parts}
+-- What sources and streams mean is well formed: the proofs of their laws.
+use Rattle.std.specs.Prelude.{◌≡◌, zero, suc, Bool, true, false, cond, ◌&&◌, ◌||◌, if◌then◌else◌, List, [], ◌∷◌, ℤ, pos, negsuc, ◌==◌, refl}
+use Rattle.std.proofs.lemmas.Bool.{both_ways}
+use Rattle.std.specs.Int.Signed.{non_neg}
 use Rattle.input.specs.declared.token.Token.{Token}
 use Rattle.input.specs.declared.lookahead.Lookahead.{Lookahead}
-use Rattle.input.specs.declared.lookahead.Held.{Held}
-use Rattle.input.specs.declared.lookahead.Held.TheVariants.{Two, One, Nothing}
 use Rattle.input.specs.declared.channel_filter.Visible.{Visible}
-use Rattle.input.specs.Tokens.{is_input_end}
+use Rattle.input.specs.Tokens.{minus_one, is_end, is_type, is_input, is_input_end, has_place}
 use Rattle.input.specs.Streams.{Stream, WellFormed, Supply, SupplyFormed, Inputs}
-use Rattle.input.specs.Held.{held_formed, held_tokens, held_end}
+use Rattle.input.specs.Held.{HeldFormed, held_tokens, held_end}
 use Rattle.input.specs.Lookahead.{stream}
 use Rattle.input.specs.Filter.{on_channel_0, visible, filter_stream}
 
+-- a token that is of the input or the end of one, and not the end, is of the input
+placed_input : (t : Token) → has_place t ≡ true → is_end t ≡ false → is_input t ≡ true
+placed_input t h e = go (is_input t) (is_end t) (non_neg t.index) h e
+  where
+    go : (i e n : Bool) → (i || (e && n)) ≡ true → e ≡ false → i ≡ true
+    go true e n h f = refl
+    go false true n h f = absurd (both_ways true f refl)
+    go false false n h f = h
+
+-- a token that is of the input or the end of one, and is the end, is the end of an input
+placed_end : (t : Token) → has_place t ≡ true → is_end t ≡ true → is_input_end t ≡ true
+placed_end t h e = go t.ttype (non_neg t.index) h e
+  where
+    go : (z : ℤ) (n : Bool) → ((is_type z && n) || (minus_one z && n)) ≡ true → minus_one z ≡ true → (minus_one z && n) ≡ true
+    go (pos k) n h f = absurd (both_ways false refl f)
+    go (negsuc zero) n h f = h
+    go (negsuc (suc k)) n h f = absurd (both_ways false refl f)
+
 -- where what is held and what the source has are formed, the tokens ahead are tokens of the input
-held_inputs : (h : Held) (s : Supply) → held_formed h ≡ true → SupplyFormed s → Inputs (held_tokens h s)
-held_inputs (Two a b) s h f = ((and_parts _ _ h).0, ((and_parts _ _ h).1, f.inputs))
-held_inputs (One a end) s h f = ((and_parts _ _ h).0, tt)
-held_inputs (Nothing end) s h f = tt
+held_inputs : (current second : Token) (s : Supply) → HeldFormed current second → SupplyFormed s → Inputs (held_tokens current second s)
+held_inputs current second s h f = go (is_end current) refl (is_end second) refl
+  where
+    go : (x : Bool) → is_end current ≡ x → (y : Bool) → is_end second ≡ y → Inputs (if x then [] else (current ∷ (if y then [] else (second ∷ s.tokens))))
+    go true e y f' = tt
+    go false e true f' = (placed_input current h.first e, tt)
+    go false e false f' = (placed_input current h.first e, (placed_input second h.behind f', f.inputs))
 
 -- where what is held and what the source has are formed, the end is the end of an input
-held_ends : (h : Held) (s : Supply) → held_formed h ≡ true → SupplyFormed s → is_input_end (held_end h s) ≡ true
-held_ends (Two a b) s h f = f.ends
-held_ends (One a end) s h f = (and_parts _ _ h).1
-held_ends (Nothing end) s h f = h
+held_ends : (current second : Token) (s : Supply) → HeldFormed current second → SupplyFormed s → is_input_end (held_end current second s) ≡ true
+held_ends current second s h f = go (is_end current) refl (is_end second) refl
+  where
+    go : (x : Bool) → is_end current ≡ x → (y : Bool) → is_end second ≡ y → is_input_end (if x then current else (if y then second else s.end)) ≡ true
+    go true e y f' = placed_end current h.first e
+    go false e true f' = placed_end second h.behind f'
+    go false e false f' = f.ends
 
 -- a stream over a formed supply is well formed
 pub stream_formed : {S : Type 0} (supply : S → Supply) (l : Lookahead S) → SupplyFormed (supply l.source) → WellFormed (stream supply l)
 stream_formed supply l f = record {
   before = l.before;
-  inputs = held_inputs l.held (supply l.source) l.formed f;
-  ends = held_ends l.held (supply l.source) l.formed f;
+  inputs = held_inputs l.current l.second (supply l.source) l.formed f;
+  ends = held_ends l.current l.second (supply l.source) l.formed f;
 }
 
 -- if all of some tokens are tokens of the input, so are those of them that are on channel 0

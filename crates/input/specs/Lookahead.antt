@@ -11,4 +11,4 @@ opened s = record { previous = None; ahead = s.tokens; end = s.end }
 -- the stream over a source: previous is what was consumed last; ahead are the tokens held and, only if two are held, those that the source has still to
 -- give; the end is the one held, or else the source's
 abbrev pub stream : {S : Type 0} → (S → Supply) → Lookahead S → Stream
-stream supply s = record { previous = s.previous; ahead = held_tokens s.held (supply s.source); end = held_end s.held (supply s.source) }
+stream supply s = record { previous = s.previous; ahead = held_tokens s.current s.second (supply s.source); end = held_end s.current s.second (supply s.source) }

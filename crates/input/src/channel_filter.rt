@@ -1,7 +1,7 @@
 // What a parser sees of a stream: the tokens on channel 0.
 ghost use Rattle.std.specs.Prelude.{◌≡◌};
 ghost use Rattle.input.specs.Filter.{visible, filtered, filter_stream};
-ghost use Rattle.input.specs.Formed.{visible_formed, filter_formed};
+ghost use Rattle.input.specs.Formed.{visible_formed};
 
 use crate::lookahead::Lookahead;
 use crate::token::Token;
@@ -20,13 +20,13 @@ impl<S: TokenStream> TokenSource for Visible<S> {
     ghost formed = { λ v. visible_formed (S.TokenStream.meaning v.stream) (S.TokenStream.formed v.stream) };
 
     fn next_token(&mut self) -> Token {
-        let mut token = self.stream.current();
-        while token.channel != Token::DEFAULT_CHANNEL && !token.is_end() {
+        loop {
+            let token = self.stream.current();
             self.stream.consume();
-            token = self.stream.current();
+            if token.channel == Token::DEFAULT_CHANNEL || token.is_end() {
+                return token;
+            }
         }
-        self.stream.consume();
-        token
     }
 }
 

@@ -2,7 +2,7 @@
 ghost use Rattle.std.specs.Prelude.{◌≡◌};
 ghost use Rattle.input.specs.Examples.{Examples};
 
-// That these examples hold is what it promises. The 0 says nothing more, and is there so that the body has something to get wrong.
+// It promises that the examples hold. The 0 says nothing more; with no value there would be nothing in the body that an edit could turn.
 pub fn examples_stand() -> u8
     ensures answer { result ≡ 0 }
     ensures examples { Examples }

@@ -1,16 +1,15 @@
 // What stands at the front of a text.
 ghost use Rattle.std.specs.Prelude.{◌≡◌, ℕ, ◌≤◌, ◌<◌, true, false, length, take, slice_index, IfSome};
 ghost use Rattle.std.specs.Option.{option_map};
-ghost use Rattle.std.specs.List.{prefix_len};
 ghost use Rattle.std.specs.Str.{bytes_eq};
-ghost use Rattle.input.specs.Bytes.{is_digit, begins_name, is_in_name, is_blank, capitals};
+ghost use Rattle.input.specs.Bytes.{begins_name, is_in_name, is_blank, capitals};
 ghost use Rattle.input.specs.TokenTypes.{number_of};
 ghost use Rattle.input.specs.Lexemes.{signs, words, type_in, longest_in, closing, part_of, first_part, comment_part, sign_part, cut, sign_or_byte, type_of, channel_of};
 
 use crate::token::Token;
 use crate::token_type::TokenType;
 
-// A lexeme, with its bytes as a part of the text.
+// A lexeme, with its bytes as a part of the text. By a rule of the project each case has its own.
 #[derive(Clone, Copy, Drop)]
 pub enum Lexeme<'a> {
     Name(&'a [u8]),
@@ -75,6 +74,7 @@ fn sign<'a>(text: &'a [u8]) -> Option<Lexeme<'a>>
     Some(Lexeme::Sign(&text[..len]))
 }
 
+// By a `match` of its own beside the one in `sign`: a table for both would be searched from end to end, by a loop.
 fn sign_type(sign: &[u8]) -> TokenType
     ensures { number_of result ≡ type_in signs sign.now 0 }
 {
@@ -127,7 +127,7 @@ fn name_type(name: &[u8]) -> TokenType
     }
 }
 
-// From `(*` on.
+// A comment, or a `(*` that is never closed, which goes to the end of the text; none where the text does not begin with `(*`.
 #[tactic(auto, using(crate::proofs::Front::comment_front))]
 fn comment<'a>(text: &'a [u8]) -> Option<Lexeme<'a>>
     ensures { option_map part_of result ≡ comment_part text.now }
@@ -196,7 +196,7 @@ impl<'a> Lexeme<'a> {
         }
     }
 
-    // A parser does not see blanks and comments.
+    // A parser does not see blanks and comments. A number, as a token's channel is.
     pub fn channel(&self) -> u8
         ensures { result ≡ channel_of (part_of self.now).kind }
     {

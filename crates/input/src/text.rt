@@ -7,7 +7,7 @@ use std::fmt;
 #[derive(Clone, Copy, Drop)]
 pub struct Text<'a> {
     bytes: &'a [u8],
-    ghost short: { length bytes.now ≤ 65536 },
+    pub ghost short: { length bytes.now ≤ 65536 },
 }
 
 // Why a slice is refused: it has more than 65,536 bytes.
@@ -17,7 +17,7 @@ pub struct TextTooLong;
 impl TextTooLong {
     ghost use Rattle.input.specs.Text.{refusal_number};
 
-    // The number under which the refusal is printed.
+    // A number, since each refusal has one by a rule of the project, and recordings print it.
     pub fn number(&self) -> u8
         ensures { result ≡ refusal_number self.now }
     {

@@ -4,7 +4,7 @@ ghost use Rattle.input.specs.Streams.{Supply, SupplyFormed, first_of, rest_of};
 
 use crate::token::Token;
 
-// A source means the tokens that it has still to give, and the end, which it gives once there are none.
+// A source means the tokens that it has still to give, and the end, which it gives again and again behind them.
 pub trait TokenSource {
     ghost supply: { Self → Supply };
 

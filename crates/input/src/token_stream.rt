@@ -4,7 +4,7 @@ ghost use Rattle.input.specs.Streams.{Stream, WellFormed, current_token, second_
 
 use crate::token::Token;
 
-// A stream means the previous token or none, the tokens ahead and the end. A question changes nothing.
+// A stream means the previous token or none, the tokens ahead and the end. `current`, `second` and `previous` change nothing.
 pub trait TokenStream {
     ghost meaning: { Self → Stream };
 
@@ -12,7 +12,7 @@ pub trait TokenStream {
     fn current(&self) -> Token
         ensures { result ≡ current_token (meaning self.now) };
 
-    // The one after it, or the end.
+    // The second token ahead, or the end where fewer than two are.
     fn second(&self) -> Token
         ensures { result ≡ second_token (meaning self.now) };
 

@@ -1,3 +1,4 @@
+// Token types by name.
 ghost use Rattle.std.specs.Prelude.{◌≡◌, pos};
 ghost use Rattle.input.specs.TokenTypes.{number_of};
 

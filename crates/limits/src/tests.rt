@@ -21,6 +21,15 @@ fn check_one(rt: &impl Abort, bytes: &[u8], ttype: i32, channel: u8) -> Result<(
     Ok(())
 }
 
+// That a stream is at its end, stays there, and had no token before it.
+fn check_at_end<S: TokenStream>(rt: &impl Abort, tokens: &mut S, end: Token) {
+    assert_eq!(rt; tokens.current(), end);
+    assert_eq!(rt; tokens.second(), end);
+    tokens.consume();
+    assert_eq!(rt; tokens.current(), end);
+    assert!(rt; tokens.previous().is_none());
+}
+
 // Fills a text with a piece, again and again.
 fn repeat(text: &mut [u8], piece: &[u8]) {
     for (b, of_piece) in text.iter_mut().zip(piece.iter().copied().cycle()) {
@@ -38,11 +47,7 @@ fn empty_text_is_its_end(rt: HostRuntime) -> Result<(), Fail> {
         offset: 0,
         len: 0,
     };
-    assert_eq!(rt; tokens.current(), end);
-    assert_eq!(rt; tokens.second(), end);
-    tokens.consume();
-    assert_eq!(rt; tokens.current(), end);
-    assert!(rt; tokens.previous().is_none());
+    check_at_end(&rt, &mut tokens, end);
     Ok(())
 }
 
@@ -101,11 +106,7 @@ fn blanks_alone_are_nothing_to_a_parser(rt: HostRuntime) -> Result<(), Fail> {
         offset: 5,
         len: 0,
     };
-    assert_eq!(rt; tokens.current(), end);
-    assert_eq!(rt; tokens.second(), end);
-    tokens.consume();
-    assert_eq!(rt; tokens.current(), end);
-    assert!(rt; tokens.previous().is_none());
+    check_at_end(&rt, &mut tokens, end);
     Ok(())
 }
 

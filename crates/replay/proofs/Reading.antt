@@ -8,12 +8,11 @@ use Rattle.replay.specs.declared.fault.LineError.{LineError}
 use Rattle.replay.specs.declared.fault.LineError.TheVariants.{Wrong, Memory}
 use Rattle.replay.specs.declared.fault.BadLine.{BadLine}
 use Rattle.replay.specs.declared.fault.ReadError.{ReadError}
-use Rattle.replay.specs.declared.recording.Head.{Head}
 use Rattle.replay.specs.declared.recording.Recording.{Recording}
 use Rattle.replay.specs.Bytes.{Bytes}
 use Rattle.replay.specs.Faults.{at_line, Gives}
 use Rattle.replay.specs.Lines.{says}
-use Rattle.replay.specs.Recordings.{lines, Said, with_line, go_on, with_lines, nothing_said, recorded, said_by, IsReadAs, Recorded}
+use Rattle.replay.specs.Recordings.{lines, Said, with_line, go_on, with_lines, nothing_said, recorded, IsReadAs, Recorded}
 
 -- the pieces between LFs (10)
 abbrev pub pieces : Bytes → List Bytes
@@ -85,17 +84,17 @@ all_read meant number n s ps r inv all done =
     (sym (inv ∙ ap (with_lines number s) (drop_all n ps (omega (arith, all, length-enumerate_from 0 ps))))) done
 
 -- the answer to a line that was not read
-refused_at : (meant : Result Said BadLine) (w : Result Said Fault) (number : ℕ) (e : LineError) → Gives said_by w (Err e)
+refused_at : (meant : Result Said BadLine) (w : Result Said Fault) (number : ℕ) (e : LineError) → Gives (λ (t : Said). t) w (Err e)
     → ((fault : Fault) → w ≡ Err fault → meant ≡ Err (record { number = number; fault = fault })) → Recorded meant (Err (at_line number e))
 refused_at meant w number (Wrong fault) is then = then fault is
 refused_at meant w number Memory is then = tt
 
-pub line_refused : (meant : Result Said BadLine) (w : Result Said Fault) (n i : ℕ) (r : Result Head LineError) (e : LineError) (f : ReadError) (out : Result Recording ReadError)
-    → Gives said_by w r → r ≡ Err e → f ≡ at_line (i + 1) e → i ≡ n → out ≡ Err f
+pub line_refused : (meant : Result Said BadLine) (w : Result Said Fault) (n i : ℕ) (r : Result Said LineError) (e : LineError) (f : ReadError) (out : Result Recording ReadError)
+    → Gives (λ (t : Said). t) w r → r ≡ Err e → f ≡ at_line (i + 1) e → i ≡ n → out ≡ Err f
     → ((fault : Fault) → w ≡ Err fault → meant ≡ Err (record { number = n + 1; fault = fault })) → Recorded meant out
 line_refused meant w n i r e f out gave is at same goes then =
     let last : out ≡ Err (at_line (n + 1) e) = cc (ap (λ (k : ℕ). at_line (k + 1) e) same) in
-    subst (Recorded meant) (sym last) (refused_at meant w (n + 1) e (subst (Gives said_by w) is gave) then)
+    subst (Recorded meant) (sym last) (refused_at meant w (n + 1) e (subst (Gives (λ (t : Said). t) w) is gave) then)
 
 -- what `map_err` kept, and what it turned into another error
 pub kept : {H E : Type 0} (F : Type 0) (r : Result H E) (h : H) → MatchResult r (λ x. ◌≡◌ {A = Result H F} (Ok h) (Ok x)) (λ e. ⊥) → r ≡ Ok h

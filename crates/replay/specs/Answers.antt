@@ -1,10 +1,10 @@
 -- What the program prints, by what it reads.
-use Rattle.std.specs.Prelude.{[], Ok, Err, Result}
+use Rattle.std.specs.Prelude.{◌≡◌, ℕ, ◌⊎◌, [], Ok, Err, Result}
 use Rattle.std.specs.Option.{unwrap_or}
 use Rattle.replay.specs.declared.fault.BadLine.{BadLine}
 use Rattle.replay.specs.Bytes.{Bytes}
-use Rattle.replay.specs.Faults.{bad_line}
-use Rattle.replay.specs.Recordings.{Said}
+use Rattle.replay.specs.Faults.{bad_line, short_at}
+use Rattle.replay.specs.Recordings.{Said, recorded}
 use Rattle.replay.specs.Printed.{line_of, text_printed}
 
 -- what is printed for a recording: the tokens of its text (an empty one if there is no text line), or the refusal of a text over 65,536 bytes, or the number
@@ -12,3 +12,11 @@ use Rattle.replay.specs.Printed.{line_of, text_printed}
 abbrev pub answer : Result Said BadLine → Bytes
 answer (Ok s) = text_printed (unwrap_or s.text [])
 answer (Err bad) = line_of (bad_line bad)
+
+-- what is printed where memory is short while the line of this number is read
+abbrev pub no_memory : ℕ → Bytes
+no_memory number = line_of (short_at (record { line = number }))
+
+-- what is printed is the answer, or that there was no memory, at a line of any number: any allocation may fail, so nothing here says when that is so
+abbrev pub Answers : Bytes → Bytes → Type 0
+Answers input out = (out ≡ answer (recorded input)) ⊎ ((number : ℕ) × (out ≡ no_memory number))

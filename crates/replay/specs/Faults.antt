@@ -22,11 +22,11 @@ message UnknownEscape = codes "a \"\\\" is not followed by n, t, r or \"\\\""
 abbrev pub bad_line : BadLine → Bytes
 bad_line b = codes "line " ++ (decimal b.number ++ (codes ": " ++ message b.fault))
 
--- what is printed where memory was short at a line, without an LF
-abbrev pub no_memory : NoMemory → Bytes
-no_memory n = codes "line " ++ (decimal n.line ++ codes ": there is no memory left")
+-- what is printed where memory was short at a line, without an LF: `line NUMBER: there is no memory left`
+abbrev pub short_at : NoMemory → Bytes
+short_at n = codes "line " ++ (decimal n.line ++ codes ": there is no memory left")
 
--- why a recording was not read, by the number of the line that was not, and why it was not: the fault, or that memory was short
+-- why a recording was not read: the number of the line at which that was found, with its fault or with want of memory
 abbrev pub at_line : ℕ → LineError → ReadError
 at_line number (Wrong fault) = read.BadLine (record { number = number; fault = fault })
 at_line number Memory = read.NoMemory (record { line = number })

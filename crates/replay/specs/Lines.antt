@@ -5,9 +5,9 @@ use Rattle.std.specs.Option.{option_map, unwrap_or}
 use Rattle.std.specs.Str.{bytes_eq}
 use Rattle.replay.specs.declared.keyword.Keyword.{Keyword}
 use Rattle.replay.specs.declared.fault.Fault.{Fault}
-use Rattle.replay.specs.declared.fault.Fault.TheVariants.{UnknownWord}
+use Rattle.replay.specs.declared.fault.Fault.TheVariants.{UnknownWord, NotYet, EmptyName, UnknownEscape}
 use Rattle.replay.specs.declared.line.Line.{Line}
-use Rattle.replay.specs.declared.line.Line.TheVariants.{Skipped, Text, Rules, NotYet}
+use Rattle.replay.specs.declared.line.Line.TheVariants.{Skipped, Text, Rules}
 use Rattle.replay.specs.Bytes.{Bytes, up_to, behind}
 use Rattle.replay.specs.Keywords.{name_of, keyword}
 
@@ -45,10 +45,12 @@ by_keyword (Some k) rest =
 abbrev pub says : Bytes → Saying
 says line = if is_blank line || is_comment line then nothing else by_keyword (keyword (up_to 32 line)) (behind 32 line)
 
--- what a line that the code has read says; a fault says that the line is wrong
+-- what a line that the code has read says; a fault says that the keyword is not read yet, or that the line is wrong
 abbrev pub meaning : Result Line Fault → Saying
 meaning (Ok Skipped) = nothing
 meaning (Ok (Text bytes)) = some_text bytes.now
 meaning (Ok (Rules names)) = some_rules (option_map (λ bytes. bytes.now) names)
-meaning (Ok (NotYet k)) = not_yet k
-meaning (Err fault) = wrong fault
+meaning (Err (NotYet k)) = not_yet k
+meaning (Err UnknownWord) = wrong UnknownWord
+meaning (Err EmptyName) = wrong EmptyName
+meaning (Err UnknownEscape) = wrong UnknownEscape

@@ -1,22 +1,13 @@
 -- What is printed of a text.
-use Rattle.std.specs.Prelude.{◌≡◌, ◌+◌, ◌≤◌, Bool, if◌then◌else◌, not, List, [], ◌∷◌, ◌++◌, length, pos, vec_items, codes, decimal, count_by, ◌==◌, nat_le}
+use Rattle.std.specs.Prelude.{◌+◌, ◌≤◌, Bool, if◌then◌else◌, not, List, [], ◌∷◌, ◌++◌, length, pos, codes, decimal, count_by, ◌==◌, nat_le}
 use Rattle.std.specs.Fmt.{signed_decimal}
 use Rattle.std.specs.List.{flat_map}
 use Rattle.std.specs.Ordering.{int_eq}
 use Rattle.input.specs.declared.token.Token.{Token}
 use Rattle.input.specs.Law.{bytes_at}
 use Rattle.input.specs.Scanned.{scanned, end_at}
-use Rattle.replay.specs.declared.report.Report.{Report}
 use Rattle.replay.specs.declared.report.Tally.{Tally}
 use Rattle.replay.specs.Bytes.{Bytes, escaped}
-
--- what a report holds
-abbrev pub printed : Report → Bytes
-printed r = vec_items r.bytes
-
--- the second report holds what the first one does, and then these bytes
-abbrev pub Adds : Report → Report → Bytes → Type 0
-Adds before after bytes = printed after ≡ printed before ++ bytes
 
 -- some bytes, and then an LF (10)
 abbrev pub line_of : Bytes → Bytes

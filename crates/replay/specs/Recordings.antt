@@ -2,18 +2,17 @@
 use Rattle.std.specs.Prelude.{◌≡◌, ℕ, ◌+◌, Bool, if◌then◌else◌, List, [], ◌∷◌, ◌++◌, length, map, Some, None, Ok, Err, vec_items, Option, Result, IsOkAnd, ok_or, ◌==◌, nat_lt}
 use Rattle.std.specs.Borrow.{Bor}
 use Rattle.std.specs.List.{list_all, onto_first, slice_split}
-use Rattle.std.specs.Option.{option_map, unwrap_or}
+use Rattle.std.specs.Option.{unwrap_or}
 use Rattle.replay.specs.declared.fault.Fault.{Fault}
 use Rattle.replay.specs.declared.fault.Fault.TheVariants.{NotYet, EmptyName, UnknownEscape}
 use Rattle.replay.specs.declared.fault.BadLine.{BadLine}
 use Rattle.replay.specs.declared.fault.ReadError.{ReadError}
 use Rattle.replay.specs.declared.fault.ReadError.TheVariants as read
-use Rattle.replay.specs.declared.recording.Head.{Head}
 use Rattle.replay.specs.declared.recording.Recording.{Recording}
 use Rattle.replay.specs.Bytes.{Bytes, unescaped}
 use Rattle.replay.specs.Lines.{Saying, nothing, some_text, some_rules, not_yet, wrong, says}
 
--- ── cut at each mark ──
+-- ── lines and words ──
 
 -- the lines of an input: each ends before an LF (10), and the last one there or where the input ends
 abbrev pub lines : Bytes → List Bytes
@@ -93,10 +92,6 @@ recorded input = with_lines 1 nothing_said (lines input)
 -- the bytes that each of some references lends
 abbrev pub bytes_in : List (Bor Bytes) → List Bytes
 bytes_in = map (λ r. r.now)
-
--- what the code has read so far
-abbrev pub said_by : Head → Said
-said_by h = record { text = option_map vec_items h.text; rules = bytes_in (vec_items h.rules) }
 
 -- a recording has this text, empty if there was no text line, and these names
 abbrev pub IsReadAs : Said → Recording → Type 0

@@ -39,10 +39,10 @@ fn first_byte(text: &[u8]) -> Result<Option<(u8, &[u8])>, Fault>
 {
     match text {
         [] => Ok(None),
-        [b'\\', e, after @ ..] => match escape_meaning(*e) {
-            Some(b) => Ok(Some((b, after))),
-            None => Err(Fault::UnknownEscape),
-        },
+        [b'\\', e, after @ ..] => {
+            let b = escape_meaning(*e).ok_or(Fault::UnknownEscape)?;
+            Ok(Some((b, after)))
+        }
         [b'\\'] => Err(Fault::UnknownEscape),
         [b, after @ ..] => Ok(Some((*b, after))),
     }

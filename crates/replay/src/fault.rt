@@ -1,7 +1,7 @@
 // Why a line of a recording was not read, and why the recording was not.
 ghost use Rattle.std.specs.Prelude.{◌≡◌, Some};
 ghost use Rattle.replay.specs.declared.fault.LineError.TheVariants.{Wrong, Memory};
-ghost use Rattle.replay.specs.Faults.{message, bad_line, no_memory, at_line};
+ghost use Rattle.replay.specs.Faults.{message, bad_line, short_at, at_line};
 
 use crate::keyword::Keyword;
 use std::alloc::{AllocError, AllocFailed};
@@ -44,6 +44,7 @@ impl From<Fault> for LineError {
     }
 }
 
+// Two impls for want of memory, since the library has two errors for it.
 impl From<AllocError> for LineError {
     ghost from_gives = { λ _ r. r ≡ Memory };
 
@@ -98,7 +99,7 @@ pub struct NoMemory {
 }
 
 impl fmt::Display for NoMemory {
-    ghost output = { λ n. Some (no_memory n) };
+    ghost output = { λ n. Some (short_at n) };
 
     fn fmt<W: fmt::Write>(&self, f: &mut fmt::Formatter<W>) -> fmt::Result {
         let line = self.line;

@@ -10,8 +10,7 @@ use crate::keyword::Keyword;
 pub enum Line<'a> {
     Skipped, // blank, or a comment
     Text(&'a [u8]), // with escapes
-    Rules(Option<&'a [u8]>), // the names, if there are any
-    NotYet(Keyword), // known by its first word, and not read yet
+    Rules(Option<&'a [u8]>), // what stands behind the word, if anything does
 }
 
 fn is_space(b: u8) -> bool
@@ -43,7 +42,7 @@ impl<'a> Line<'a> {
         match Keyword::try_from(word)? {
             Keyword::Text => Ok(Line::Text(rest.unwrap_or(&[]))),
             Keyword::Rules => Ok(Line::Rules(rest)),
-            keyword => Ok(Line::NotYet(keyword)),
+            keyword => Err(Fault::NotYet(keyword)),
         }
     }
 }

@@ -3,8 +3,7 @@
 
 ghost use Rattle.std.specs.Prelude.{◌≡◌, IfOk};
 ghost use Rattle.replay.specs.declared.Failure.TheVariants.{Memory, Io};
-ghost use Rattle.replay.specs.Answers.{answer};
-ghost use Rattle.replay.specs.Printed.{printed};
+ghost use Rattle.replay.specs.Answers.{answer, Answers};
 ghost use Rattle.replay.specs.Recordings.{recorded};
 
 use crate::fault::{NoMemory, ReadError};
@@ -24,8 +23,8 @@ mod report;
 // Why the program could not do its work. A wrong line is answered, and is no such failure.
 #[derive(Debug, Drop)]
 enum Failure {
-    Line(NoMemory),
-    Memory,
+    Line(NoMemory), // no memory for a line
+    Memory, // none for the report
     Io(io::Error),
 }
 
@@ -45,9 +44,9 @@ impl From<io::Error> for Failure {
     }
 }
 
-// All that is printed for an input.
-fn replay(heap: Global, input: &[u8]) -> Result<Report, Failure>
-    ensures { IfOk result (λ report. printed report ≡ answer (recorded input.now)) }
+// The answer to an input, or where memory was short.
+fn answer(heap: Global, input: &[u8]) -> Result<Report, Failure>
+    ensures { IfOk result (λ report. report ≡ answer (recorded input.now)) }
 {
     let mut report = Report::new(heap);
     match Recording::read(heap, input) {
@@ -58,18 +57,24 @@ fn replay(heap: Global, input: &[u8]) -> Result<Report, Failure>
     Ok(report)
 }
 
+// All that is printed for an input. A line that was not read for want of memory is reported like a wrong one, if there is memory for that.
+fn replay(heap: Global, input: &[u8]) -> Result<Report, Failure>
+    ensures { IfOk result (λ report. Answers input.now report) }
+{
+    match answer(heap, input) {
+        Err(Failure::Line(no_memory)) => {
+            let mut report = Report::new(heap);
+            report.line(no_memory)?;
+            Ok(report)
+        }
+        other => other,
+    }
+}
+
 fn main(rt: HostRuntime) -> Result<(), Failure> {
     let mut input = Vec::new(rt.alloc());
     rt.stdin().read_to_end(&mut input)?;
-    let report = match replay(rt.alloc(), input.as_slice()) {
-        // Reported like a wrong line, if there is memory for that.
-        Err(Failure::Line(no_memory)) => {
-            let mut report = Report::new(rt.alloc());
-            report.line(no_memory)?;
-            report
-        }
-        other => other?,
-    };
+    let report = replay(rt.alloc(), input.as_slice())?;
     rt.write_all(report.bytes())?;
     Ok(())
 }

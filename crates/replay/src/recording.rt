@@ -1,14 +1,15 @@
-// A recording: what is parsed, and with what.
+// A recording: a text, and the names of its rules.
 ghost use Rattle.std.specs.Prelude.{◌≡◌, IfOk, vec_items};
 ghost use Rattle.std.specs.Option.{option_map};
 ghost use Rattle.replay.specs.Faults.{Gives};
 ghost use Rattle.replay.specs.Lines.{says};
-ghost use Rattle.replay.specs.Recordings.{bytes_in, names, continued, with_line, nothing_said, recorded, said_by, IsReadAs, Recorded};
+ghost use Rattle.replay.specs.Recordings.{bytes_in, names, continued, with_line, nothing_said, recorded, IsReadAs, Recorded};
 
 use crate::bytes::unescape;
 use crate::fault::{Fault, LineError, ReadError};
 use crate::line::Line;
 use std::alloc::{AllocError, Global};
+use std::marker::Model;
 
 #[derive(Drop)]
 pub struct Recording<'a> {
@@ -21,6 +22,16 @@ pub struct Recording<'a> {
 struct Head<'a> {
     text: Option<Vec<u8>>, // none before the first text line
     rules: Vec<&'a [u8]>,
+}
+
+impl<'a> Model for Head<'a> {
+    ghost use Rattle.std.specs.Prelude.{vec_items};
+    ghost use Rattle.std.specs.Option.{option_map};
+    ghost use Rattle.replay.specs.Recordings.{Said, bytes_in};
+
+    ghost Value = { Said };
+
+    ghost view = { λ h. record { text = option_map vec_items h.text; rules = bytes_in (vec_items h.rules) } };
 }
 
 // The text after one more line of it.
@@ -54,7 +65,7 @@ fn read_names<'a>(heap: Global, bytes: Option<&'a [u8]>) -> Result<Vec<&'a [u8]>
 
 impl<'a> Head<'a> {
     fn new(heap: Global) -> Head<'a>
-        ensures { said_by result ≡ nothing_said }
+        ensures { result ≡ nothing_said }
     {
         Head {
             text: None,
@@ -63,7 +74,7 @@ impl<'a> Head<'a> {
     }
 
     fn with_line(self, line: &'a [u8]) -> Result<Head<'a>, LineError>
-        ensures { Gives said_by (with_line (said_by self.entry) (says line.now)) result }
+        ensures { Gives (λ head. head) (with_line self.entry (says line.now)) result }
     {
         let Head { text, rules } = self;
         let heap = *rules.allocator();
@@ -80,13 +91,12 @@ impl<'a> Head<'a> {
                 text,
                 rules: read_names(heap, names)?,
             }),
-            Line::NotYet(keyword) => Err(Fault::NotYet(keyword).into()),
         }
     }
 
     // Without a text line the text is empty.
     fn recording(self) -> Recording<'a>
-        ensures { IsReadAs (said_by self.entry) result }
+        ensures { IsReadAs self.entry result }
     {
         let Head { text, rules } = self;
         let heap = *rules.allocator();

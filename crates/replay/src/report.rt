@@ -5,7 +5,7 @@ ghost use Rattle.input.specs.Law.{bytes_at};
 ghost use Rattle.input.specs.Scanned.{scanned};
 ghost use Rattle.input.specs.Scanner.{scanner_stream};
 ghost use Rattle.input.specs.Text.{bytes_of};
-ghost use Rattle.replay.specs.Printed.{printed, Adds, line_of, token_line, Few, counted, tally_of, tally_line, listing, tokens_printed, text_printed};
+ghost use Rattle.replay.specs.Printed.{line_of, token_line, Few, counted, tally_of, tally_line, listing, tokens_printed, text_printed};
 
 use crate::bytes::escape;
 use crate::recording::Recording;
@@ -16,6 +16,7 @@ use input::token_stream::TokenStream;
 use input::token_type::TokenType;
 use std::alloc::{AllocError, Global};
 use std::fmt;
+use std::marker::Model;
 
 // How many tokens there are, without the end.
 #[derive(Clone, Copy, Debug, Default, PartialEq, Eq)]
@@ -26,7 +27,7 @@ struct Tally {
 }
 
 impl Tally {
-    // A text keeps the bound. A tally cannot keep it by itself, since each token that is counted adds one.
+    // `Few` holds since a text has at most 65,536 tokens. As a bound in the type it would not do, since each token that is counted adds one.
     fn count(&mut self, token: &Token)
         requires { Few self.old }
         ensures { self.new ≡ counted self.old token.now }
@@ -59,8 +60,8 @@ impl fmt::Display for Tally {
     }
 }
 
-// Moves past the current token and gives it, or nothing at the end. An `Iterator` would have to say in a relation of its own that the end stays, which is
-// printed after the loop.
+// Moves past the current token and gives it, or nothing at the end. As an `Iterator` it would have to say in a relation of its own that the end stays, which
+// `token_lines` prints last.
 fn next_token(scanner: &mut Scanner) -> Option<Token>
     ensures tokens { YieldsFirst (λ s. (scanner_stream s).ahead) scanner.old result scanner.new }
     ensures end { (scanner_stream scanner.new).end ≡ (scanner_stream scanner.old).end }
@@ -86,9 +87,18 @@ pub struct Report {
     bytes: Vec<u8>,
 }
 
+// A report is the bytes that it holds.
+impl Model for Report {
+    ghost use Rattle.input.specs.Bytes.{Bytes};
+
+    ghost Value = { Bytes };
+
+    ghost view = { λ r. r.bytes.items };
+}
+
 impl Report {
     pub fn new(heap: Global) -> Report
-        ensures { printed result ≡ [] }
+        ensures { result ≡ [] }
     {
         Report {
             bytes: Vec::new(heap),
@@ -96,34 +106,34 @@ impl Report {
     }
 
     pub fn bytes(&self) -> &[u8]
-        ensures { result.now ≡ printed self.now }
+        ensures { result.now ≡ self.now }
     {
         self.bytes.as_slice()
     }
 
     // By a `String`: std's `Write` for a `Vec` answers with an `io::Error`, which may be another one than want of memory.
     fn print<D: fmt::Display + Drop>(&mut self, text: D) -> Result<(), AllocError>
-        ensures { OnOk result (IfSome (D.output text) (Adds self.old self.new)) }
+        ensures { OnOk result (IfSome (D.output text) (λ bytes. self.new ≡ self.old ++ bytes)) }
     {
         let text = format!(in *self.bytes.allocator(); "{text}")?;
         self.bytes.extend_from_slice(text.as_bytes())
     }
 
     pub fn line<D: fmt::Display + Drop>(&mut self, text: D) -> Result<(), AllocError>
-        ensures { OnOk result (IfSome (D.output text) (λ bytes. Adds self.old self.new (line_of bytes))) }
+        ensures { OnOk result (IfSome (D.output text) (λ bytes. self.new ≡ self.old ++ line_of bytes)) }
     {
         self.print(format_args!("{text}\n"))
     }
 
     fn refusal(&mut self, refusal: &TextTooLong) -> Result<(), AllocError>
-        ensures { OnOk result (Adds self.old self.new (line_of (codes "text -> refused 3 (out of range)"))) }
+        ensures { OnOk result (self.new ≡ self.old ++ line_of (codes "text -> refused 3 (out of range)")) }
     {
         let number = refusal.number();
         self.line(format_args!("text -> refused {number} ({refusal})"))
     }
 
     fn token(&mut self, token: &Token, part: &[u8]) -> Result<(), AllocError>
-        ensures { OnOk result (Adds self.old self.new (token_line token.now part.now)) }
+        ensures { OnOk result (self.new ≡ self.old ++ token_line token.now part.now) }
     {
         let Token {
             ttype,
@@ -139,7 +149,7 @@ impl Report {
 
     // The tokens of a text on both channels, the end last.
     fn token_lines(&mut self, text: Text) -> Result<Tally, AllocError>
-        ensures lines { OnOk result (Adds self.old self.new (listing (bytes_of text.entry))) }
+        ensures lines { OnOk result (self.new ≡ self.old ++ listing (bytes_of text.entry)) }
         ensures tally { IfOk result (λ tally. tally ≡ tally_of (scanned (bytes_of text.entry))) }
     {
         let bytes = text.bytes();
@@ -154,7 +164,7 @@ impl Report {
     }
 
     fn tokens(&mut self, text: Text) -> Result<(), AllocError>
-        ensures { OnOk result (Adds self.old self.new (tokens_printed (bytes_of text.entry))) }
+        ensures { OnOk result (self.new ≡ self.old ++ tokens_printed (bytes_of text.entry)) }
     {
         self.line("tokens")?;
         let tally = self.token_lines(text)?;
@@ -163,7 +173,7 @@ impl Report {
 
     #[tactic(auto, using(crate::proofs::Answering::text_fits))]
     pub fn recording(&mut self, recording: &Recording) -> Result<(), AllocError>
-        ensures { OnOk result (Adds self.old self.new (text_printed recording.now.text.items)) }
+        ensures { OnOk result (self.new ≡ self.old ++ text_printed recording.now.text.items) }
     {
         match Text::new(recording.text.as_slice()) {
             Ok(text) => self.tokens(text),

@@ -9,7 +9,7 @@ ghost use Rattle.std.specs.Bool.{OnTrue, OnFalse};
 pub struct Stack<'a, T> {
     items: &'a mut [T],
     count: usize,
-    ghost within: { count ≤ length items.now },
+    pub ghost within: { count ≤ length items.now },
 }
 
 // Every place is taken.
@@ -100,7 +100,7 @@ impl<'a, T: Copy> Stack<'a, T> {
         Some(last)
     }
 
-    // Puts `x` in the place of the last element pushed. Where there is none, changes nothing and returns false.
+    // Puts `x` in the place of the last element pushed. Where there is none, changes nothing and returns false, a bool, since neither case has a value to give.
     pub fn set_last(&mut self, x: T) -> bool
         ensures test { IsTrue result ↔ (0 < length (contents self.old)) }
         ensures contents { contents self.new ≡ slice_set (contents self.old) 0 x }

@@ -1,5 +1,4 @@
 use Rattle.std.proofs.Common.{◌≡◌, length}
-use Rattle.input.specs.Streams.{current_token}
 use Rattle.input.specs.Filter.{on_channel_0}
 use Rattle.input.proofs.channel_filter.VisibleTokenSource.next_token.Given as goal
 
@@ -8,7 +7,7 @@ abbrev pub invariant-loop-token : goal.invariant-loop-token
 invariant-loop-token g l =
     let now = g.S.TokenStream.meaning l.self.stream in
     let before = g.S.TokenStream.meaning l.initial.self.stream in
-    (on_channel_0 now.ahead ≡ on_channel_0 before.ahead) × (now.end ≡ before.end) × (l.token ≡ current_token now)
+    (on_channel_0 now.ahead ≡ on_channel_0 before.ahead) × (now.end ≡ before.end)
 
 abbrev pub decreases-loop-token : goal.decreases-loop-token
 decreases-loop-token g l = length (g.S.TokenStream.meaning l.self.stream).ahead

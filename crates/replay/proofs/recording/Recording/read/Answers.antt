@@ -6,7 +6,7 @@ use Rattle.std.proofs.lemmas.List.{length_push}
 use Rattle.std.proofs.lemmas.Result.{err_from_is_err_and}
 use Rattle.replay.specs.declared.fault.ReadError.{ReadError}
 use Rattle.replay.specs.Lines.{says}
-use Rattle.replay.specs.Recordings.{with_line, with_lines, recorded, said_by}
+use Rattle.replay.specs.Recordings.{with_line, with_lines, recorded}
 use Rattle.replay.proofs.Reading.{pieces, from_pieces, piece_there, line_read, line_wrong, all_read, line_refused, kept, turned}
 use Rattle.replay.proofs.recording.Recording.read.Goals as goal
 use Rattle.replay.proofs.recording.Recording.read.Goals.{In-Some}
@@ -28,7 +28,7 @@ pub returns-in_err-head : goal.returns-in_err-head
 returns-in_err-head c =
     let n = length c.loop-i.yielded in
     let line = c.in-Some.line.now in
-    let before = said_by c.loop-i.head in
+    let before = c.loop-i.head in
     let t = there (goal.at.returns-in_err-head c).In-Some in
     let r = turned c.with_line.result _ _ c.in_err-head.ensures.cases in
     let p = err_from_is_err_and c.from_residual.result c.from_residual.ensures.1 in
@@ -40,10 +40,10 @@ pub loop-i-preserved : goal.loop-i-preserved
 loop-i-preserved c =
     let ps = pieces c.args.input.now in
     let n = length c.loop-i.yielded in
-    let after = said_by c.in_ok-head.head in
+    let after = c.in_ok-head.head in
     let t = there (goal.at.loop-i-preserved c).In-Some in
     let r = kept _ c.with_line.result c.in_ok-head.head c.in_ok-head.ensures.cases in
-    let read = line_read (n + 1) (said_by c.loop-i.head) ps n c.in-Some.line.now t.0 t.2 after (rw r at c.with_line.ensures) in (
+    let read = line_read (n + 1) (c.loop-i.head) ps n c.in-Some.line.now t.0 t.2 after (rw r at c.with_line.ensures) in (
       search of_calls,
       grind serving,
       c.loop-i.invariant.2 ∙ read ∙ ap (λ (k : ℕ). with_lines (k + 1) after (drop k ps)) (sym (length_push c.loop-i.yielded (c.in-Some.i, c.in-Some.line))),
@@ -55,4 +55,4 @@ returns c =
     let all =
     YieldsList-end (YieldsList-from_enumerate (YieldsList-from_slice_split _ (λ b. b == 10) c.args.input.now (cc) (cc) (cc) (λ x b q k. search (rules, tests))) (cc))
     c.loop-i.yielded _ c.loop-i.yielded_by _ _ c.in-None.is c.next.ensures.steps in
-    all_read (recorded c.args.input.now) (n + 1) n (said_by c.loop-i.head) (pieces c.args.input.now) c.recording.result c.loop-i.invariant.2 all.1 c.recording.ensures
+    all_read (recorded c.args.input.now) (n + 1) n (c.loop-i.head) (pieces c.args.input.now) c.recording.result c.loop-i.invariant.2 all.1 c.recording.ensures

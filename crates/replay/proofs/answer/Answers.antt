@@ -4,11 +4,11 @@ use Rattle.replay.specs.declared.recording.Recording.{Recording}
 use Rattle.replay.specs.Answers.{answer}
 use Rattle.replay.specs.Bytes.{Bytes}
 use Rattle.replay.specs.Faults.{bad_line}
-use Rattle.replay.specs.Printed.{printed, line_of, text_printed}
+use Rattle.replay.specs.Printed.{line_of, text_printed}
 use Rattle.replay.specs.Recordings.{Said, recorded, Recorded}
 use Rattle.replay.proofs.Prints.{from_nothing}
-use Rattle.replay.proofs.replay.Goals as goal
-use Rattle.replay.proofs.replay.Goals.{in-Ok+in_ok-recording-in-Ok, in-Err-BadLine+in_ok-line-in-Err-BadLine}
+use Rattle.replay.proofs.answer.Goals as goal
+use Rattle.replay.proofs.answer.Goals.{in-Ok+in_ok-recording-in-Ok, in-Err-BadLine+in_ok-line-in-Err-BadLine}
 
 -- what is printed where a recording was read, and where a line is wrong
 read_well : (meant : Result Said BadLine) (r : Recording) (out : Bytes) → Recorded meant (Ok r) → out ≡ text_printed (vec_items r.text) → out ≡ answer meant
@@ -23,8 +23,8 @@ returns c =
     elim c.match-read.branch [
       | in-Ok+in_ok-recording-in-Ok w ↦
           read_well (recorded c.args.input.now) w.in-Ok.recording _ w.in-Ok.ensures
-          (ap printed w.report-is ∙ from_nothing _ _ _ w.in_ok-recording-in-Ok.ensures c.new-report.ensures)
+          (w.report-is ∙ from_nothing _ _ _ w.in_ok-recording-in-Ok.ensures c.new-report.ensures)
       | in-Err-BadLine+in_ok-line-in-Err-BadLine w ↦
           refused_well (recorded c.args.input.now) w.in-Err-BadLine.bad _ (rw w.in-Err-BadLine.field-0-is at w.in-Err-BadLine.ensures)
-          (ap printed w.report-is ∙ from_nothing _ _ _ w.in_ok-line-in-Err-BadLine.ensures c.new-report.ensures)
+          (w.report-is ∙ from_nothing _ _ _ w.in_ok-line-in-Err-BadLine.ensures c.new-report.ensures)
     ]
