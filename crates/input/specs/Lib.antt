@@ -5,6 +5,7 @@ pub mod Filter
 pub mod Bytes
 pub mod Text
 pub mod TokenTypes
+pub mod Channels
 pub mod Lexemes
 pub mod Scanned
 pub mod Law

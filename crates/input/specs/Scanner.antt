@@ -12,6 +12,7 @@ still_to_scan c =
     let tokens = scanned_from c.index c.offset c.rest.now in
     record { tokens = tokens; end = end_at (c.index + length tokens) (c.offset + length c.rest.now) }
 
--- the stream that a scanner is: previous is what was consumed last; ahead are the tokens held and, only if two are held, those still to be scanned
+-- the stream that a scanner is: previous is what was consumed last; ahead are the two tokens held, up to the first that is the end, and, if neither is, those
+-- still to be scanned
 abbrev pub scanner_stream : Lookahead Cursor → Stream
 scanner_stream s = stream still_to_scan s

@@ -4,7 +4,7 @@ use Rattle.input.specs.declared.text.Text.{Text}
 use Rattle.input.specs.declared.text.TextTooLong.{TextTooLong}
 use Rattle.input.specs.Bytes.{Bytes}
 
--- the bytes of a text of the code, which its type bounds: at most 65,536
+-- the bytes of a text of the code: at most 65,536, as its type says
 abbrev pub bytes_of : Text → Bytes
 bytes_of t = t.bytes.now
 

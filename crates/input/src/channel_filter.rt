@@ -3,6 +3,7 @@ ghost use Rattle.std.specs.Prelude.{◌≡◌};
 ghost use Rattle.input.specs.Filter.{visible, filtered, filter_stream};
 ghost use Rattle.input.specs.Formed.{visible_formed};
 
+use crate::channel::Channel;
 use crate::lookahead::Lookahead;
 use crate::token::Token;
 use crate::token_source::TokenSource;
@@ -23,7 +24,7 @@ impl<S: TokenStream> TokenSource for Visible<S> {
         loop {
             let token = self.stream.current();
             self.stream.consume();
-            if token.channel == Token::DEFAULT_CHANNEL || token.is_end() {
+            if token.channel == Channel::Default.into() || token.is_end() {
                 return token;
             }
         }

@@ -3,13 +3,14 @@ ghost use Rattle.std.specs.Prelude.{◌≡◌, ℕ, ◌≤◌, ◌<◌, true, fa
 ghost use Rattle.std.specs.Option.{option_map};
 ghost use Rattle.std.specs.Str.{bytes_eq};
 ghost use Rattle.input.specs.Bytes.{begins_name, is_in_name, is_blank, capitals};
+ghost use Rattle.input.specs.Channels.{channel_number};
 ghost use Rattle.input.specs.TokenTypes.{number_of};
 ghost use Rattle.input.specs.Lexemes.{signs, words, type_in, longest_in, closing, part_of, first_part, comment_part, sign_part, cut, sign_or_byte, type_of, channel_of};
 
-use crate::token::Token;
+use crate::channel::Channel;
 use crate::token_type::TokenType;
 
-// A lexeme, with its bytes as a part of the text. By a rule of the project each case has its own.
+// A lexeme, with its bytes as a part of the text. An enum whose cases borrow, by a rule of the project.
 #[derive(Clone, Copy, Drop)]
 pub enum Lexeme<'a> {
     Name(&'a [u8]),
@@ -74,7 +75,7 @@ fn sign<'a>(text: &'a [u8]) -> Option<Lexeme<'a>>
     Some(Lexeme::Sign(&text[..len]))
 }
 
-// By a `match` of its own beside the one in `sign`: a table for both would be searched from end to end, by a loop.
+// A `match` of its own beside the one in `sign`: one table for both would need a search by its front and a search by all its bytes, no less code than this.
 fn sign_type(sign: &[u8]) -> TokenType
     ensures { number_of result ≡ type_in signs sign.now 0 }
 {
@@ -196,13 +197,13 @@ impl<'a> Lexeme<'a> {
         }
     }
 
-    // A parser does not see blanks and comments. A number, as a token's channel is.
-    pub fn channel(&self) -> u8
-        ensures { result ≡ channel_of (part_of self.now).kind }
+    // A parser does not see blanks and comments.
+    pub fn channel(&self) -> Channel
+        ensures { channel_number result ≡ channel_of (part_of self.now).kind }
     {
         match self {
-            Lexeme::Blank(_) | Lexeme::Comment(_) => Token::HIDDEN_CHANNEL,
-            _ => Token::DEFAULT_CHANNEL,
+            Lexeme::Blank(_) | Lexeme::Comment(_) => Channel::Hidden,
+            _ => Channel::Default,
         }
     }
 }

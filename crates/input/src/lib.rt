@@ -1,6 +1,7 @@
 // Tokens, streams of them, the scanner of Structured Text and the channel filter.
 #![tactic(auto)]
 
+pub mod channel;
 pub mod channel_filter;
 pub mod examples;
 pub mod lexeme;

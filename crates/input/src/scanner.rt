@@ -5,6 +5,7 @@ ghost use Rattle.input.specs.Law.{Scans};
 ghost use Rattle.input.specs.Scanned.{scanner};
 ghost use Rattle.input.specs.Text.{bytes_of};
 
+use crate::channel::Channel;
 use crate::lexeme::Lexeme;
 use crate::lookahead::Lookahead;
 use crate::text::Text;
@@ -50,10 +51,10 @@ impl<'a> TokenSource for Cursor<'a> {
     #[tactic(auto, using(crate::proofs::Scanning::steps))]
     fn next_token(&mut self) -> Token {
         let Some(lexeme) = Lexeme::first(self.rest) else {
-            return self.token(Token::END, Token::DEFAULT_CHANNEL, 0);
+            return self.token(Token::END, Channel::Default.into(), 0);
         };
         let len = lexeme.bytes().len();
-        let token = self.token(lexeme.ttype().into(), lexeme.channel(), len as u32);
+        let token = self.token(lexeme.ttype().into(), lexeme.channel().into(), len as u32);
         self.rest = &self.rest[len..];
         self.offset += len as u32;
         self.index += 1;

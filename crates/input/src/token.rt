@@ -16,12 +16,6 @@ impl Token {
     // The type of the token that stands at the end of the input.
     pub const END: i32 = -1;
 
-    // The channel that a parser sees.
-    pub const DEFAULT_CHANNEL: u8 = 0;
-
-    // The channel of blanks and comments.
-    pub const HIDDEN_CHANNEL: u8 = 1;
-
     pub fn is_end(&self) -> bool
         ensures { result ≡ is_end self.now }
     {

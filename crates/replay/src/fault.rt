@@ -92,7 +92,7 @@ impl fmt::Display for BadLine {
     }
 }
 
-// Memory was short while the line with this number, from 1, was read.
+// Memory was short while the line with this number, from 1, was read. Apart from `BadLine`, since a wrong line is an answer, and this is none.
 #[derive(Clone, Copy, Debug, PartialEq, Eq)]
 pub struct NoMemory {
     pub line: usize,
@@ -107,7 +107,7 @@ impl fmt::Display for NoMemory {
     }
 }
 
-// Why a recording was not read: a line is wrong, or memory was short at one.
+// Why a recording was not read: a line is wrong, or memory was short at one. Apart from `LineError`, since what reads a line does not know its number.
 #[derive(Clone, Copy, Debug, PartialEq, Eq)]
 pub enum ReadError {
     BadLine(BadLine),

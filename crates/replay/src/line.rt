@@ -10,7 +10,7 @@ use crate::keyword::Keyword;
 pub enum Line<'a> {
     Skipped, // blank, or a comment
     Text(&'a [u8]), // with escapes
-    Rules(Option<&'a [u8]>), // what stands behind the word, if anything does
+    Rules(Option<&'a [u8]>), // what stands behind the space after the word, if there is one
 }
 
 fn is_space(b: u8) -> bool

@@ -3,6 +3,7 @@
 
 ghost use Rattle.std.specs.Prelude.{◌≡◌, IfOk};
 ghost use Rattle.replay.specs.declared.Failure.TheVariants.{Memory, Io};
+ghost use Rattle.replay.specs.declared.OutOfMemory.TheVariants.{ForReport};
 ghost use Rattle.replay.specs.Answers.{answer, Answers};
 ghost use Rattle.replay.specs.Recordings.{recorded};
 
@@ -23,8 +24,7 @@ mod report;
 // Why the program could not do its work. A wrong line is answered, and is no such failure.
 #[derive(Debug, Drop)]
 enum Failure {
-    Line(NoMemory), // no memory for a line
-    Memory, // none for the report
+    Memory,
     Io(io::Error),
 }
 
@@ -44,30 +44,46 @@ impl From<io::Error> for Failure {
     }
 }
 
+// Where memory was short: at a line, or for the report.
+#[derive(Debug, Drop)]
+enum OutOfMemory {
+    AtLine(NoMemory),
+    ForReport(AllocError),
+}
+
+impl From<AllocError> for OutOfMemory {
+    ghost from_gives = { λ e r. r ≡ ForReport e };
+
+    fn from(e: AllocError) -> OutOfMemory {
+        OutOfMemory::ForReport(e)
+    }
+}
+
 // The answer to an input, or where memory was short.
-fn answer(heap: Global, input: &[u8]) -> Result<Report, Failure>
+fn answer(heap: Global, input: &[u8]) -> Result<Report, OutOfMemory>
     ensures { IfOk result (λ report. report ≡ answer (recorded input.now)) }
 {
     let mut report = Report::new(heap);
     match Recording::read(heap, input) {
         Ok(recording) => report.recording(&recording)?,
         Err(ReadError::BadLine(bad)) => report.line(bad)?,
-        Err(ReadError::NoMemory(no_memory)) => return Err(Failure::Line(no_memory)),
+        Err(ReadError::NoMemory(no_memory)) => return Err(OutOfMemory::AtLine(no_memory)),
     }
     Ok(report)
 }
 
 // All that is printed for an input. A line that was not read for want of memory is reported like a wrong one, if there is memory for that.
-fn replay(heap: Global, input: &[u8]) -> Result<Report, Failure>
+fn replay(heap: Global, input: &[u8]) -> Result<Report, AllocError>
     ensures { IfOk result (λ report. Answers input.now report) }
 {
     match answer(heap, input) {
-        Err(Failure::Line(no_memory)) => {
+        Ok(report) => Ok(report),
+        Err(OutOfMemory::AtLine(no_memory)) => {
             let mut report = Report::new(heap);
             report.line(no_memory)?;
             Ok(report)
         }
-        other => other,
+        Err(OutOfMemory::ForReport(e)) => Err(e),
     }
 }
 

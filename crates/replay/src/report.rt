@@ -9,6 +9,7 @@ ghost use Rattle.replay.specs.Printed.{line_of, token_line, Few, counted, tally_
 
 use crate::bytes::escape;
 use crate::recording::Recording;
+use input::channel::Channel;
 use input::scanner::Scanner;
 use input::text::{Text, TextTooLong};
 use input::token::Token;
@@ -32,7 +33,7 @@ impl Tally {
         requires { Few self.old }
         ensures { self.new ≡ counted self.old token.now }
     {
-        if token.channel == Token::DEFAULT_CHANNEL {
+        if token.channel == Channel::Default.into() {
             self.visible += 1;
         } else {
             self.hidden += 1;

@@ -4,7 +4,8 @@
 ghost use Rattle.std.specs.Prelude.{◌≡◌, ◌-◌, ◌<◌, ◌≤◌, ◌↔◌, [], ◌∷◌, reverse, length, drop, slice_get, slice_set, IsOk, IsTrue, OnOk, OnErr, ◌==◌};
 ghost use Rattle.std.specs.Bool.{OnTrue, OnFalse};
 
-// The first `count` of `items` are the elements, in the order in which they were pushed. The other places are free.
+// The first `count` of `items` are the elements, in the order in which they were pushed. The other places are free. A slice and a count, since a `Vec` would
+// need a heap, and by a rule of the project there is none.
 #[derive(Drop)]
 pub struct Stack<'a, T> {
     items: &'a mut [T],

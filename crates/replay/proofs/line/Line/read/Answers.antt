@@ -1,3 +1,4 @@
+-- Kept, since without it the check finds this goal only near its limits: not with half of its counts.
 use Rattle.std.proofs.Common.{◌≡◌, Bool, false, cond, Some, Option, refl, sym, ap, ◌∙◌}
 use Rattle.std.proofs.lemmas.Bool.{or_from}
 use Rattle.replay.specs.declared.keyword.Keyword.{Keyword}
