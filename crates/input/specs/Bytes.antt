@@ -26,7 +26,7 @@ is_blank b = b == 32 || b == 9 || b == 10 || b == 13
 abbrev pub capitals : Bytes → Bytes
 capitals = map to_ascii_uppercase
 
--- whether a text begins with these bytes
+-- whether the second list begins with the first; any does with the empty one
 abbrev pub starts_with : Bytes → Bytes → Bool
 starts_with [] text = true
 starts_with (w ∷ ws) [] = false

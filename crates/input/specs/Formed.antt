@@ -29,7 +29,7 @@ placed_end t h e = go t.ttype (non_neg t.index) h e
     go (negsuc zero) n h f = h
     go (negsuc (suc k)) n h f = absurd (both_ways false refl f)
 
--- where what is held and what the source has are formed, the tokens ahead are tokens of the input
+-- if the two tokens held are `HeldFormed` and what the source has is `SupplyFormed`, the tokens ahead are tokens of the input
 held_inputs : (current second : Token) (s : Supply) → HeldFormed current second → SupplyFormed s → Inputs (held_tokens current second s)
 held_inputs current second s h f = go (is_end current) refl (is_end second) refl
   where
@@ -38,7 +38,7 @@ held_inputs current second s h f = go (is_end current) refl (is_end second) refl
     go false e true f' = (placed_input current h.first e, tt)
     go false e false f' = (placed_input current h.first e, (placed_input second h.behind f', f.inputs))
 
--- where what is held and what the source has are formed, the end is the end of an input
+-- if the two tokens held are `HeldFormed` and what the source has is `SupplyFormed`, the end is the end of an input
 held_ends : (current second : Token) (s : Supply) → HeldFormed current second → SupplyFormed s → is_input_end (held_end current second s) ≡ true
 held_ends current second s h f = go (is_end current) refl (is_end second) refl
   where
@@ -47,7 +47,7 @@ held_ends current second s h f = go (is_end current) refl (is_end second) refl
     go false e true f' = placed_end second h.behind f'
     go false e false f' = f.ends
 
--- a stream over a formed supply is well formed
+-- if what the source has still to give is `SupplyFormed`, the stream over it is `WellFormed`
 pub stream_formed : {S : Type 0} (supply : S → Supply) (l : Lookahead S) → SupplyFormed (supply l.source) → WellFormed (stream supply l)
 stream_formed supply l f = record {
   before = l.before;
@@ -64,11 +64,11 @@ every_visible (t ∷ ts) e = go (t.channel == 0) (every_visible ts e.1)
     go true r = (e.0, r)
     go false r = r
 
--- what a filter finds in a well-formed stream is formed
+-- if a stream is `WellFormed`, its tokens on channel 0 with its end are `SupplyFormed`
 pub visible_formed : (s : Stream) → WellFormed s → SupplyFormed (visible s)
 visible_formed s f = record { inputs = every_visible s.ahead f.inputs; ends = f.ends }
 
--- a filter over well-formed streams is well formed
+-- if every stream of a type is `WellFormed`, so is every filter over that type
 pub filter_formed : {S : Type 0} (meaning : S → Stream) → ((s : S) → WellFormed (meaning s)) → (f : Lookahead (Visible S)) → WellFormed (filter_stream meaning f)
 filter_formed {S} meaning formed f =
     let source = f.source.stream in

@@ -10,10 +10,10 @@ pub record HeldFormed (current second : Token) : Type 0 where
   pub behind : has_place second ≡ true
   pub stays : is_end current ≡ true → second ≡ current
 
--- the tokens ahead: the two up to the first that is the end, and then, if neither is, those that the source has
+-- the tokens ahead: none if the current token is an end; else it, and, unless the second is an end, the second and then those that the source has
 abbrev pub held_tokens : Token → Token → Supply → List Token
 held_tokens current second s = if is_end current then [] else (current ∷ (if is_end second then [] else (second ∷ s.tokens)))
 
--- the end: the first of the two that is one, or else the source's
+-- the end: the first of the two that is an end, or else the source's
 abbrev pub held_end : Token → Token → Supply → Token
 held_end current second s = if is_end current then current else (if is_end second then second else s.end)

@@ -7,7 +7,7 @@ use Rattle.input.specs.Lexemes.{Kind, name, number, sign, blank, comment, unknow
 
 -- ── what each kind of lexeme is, by its bytes and what stands behind them ──
 
--- the first byte passes the test
+-- there is a first byte, and it passes the test
 abbrev pub Begins : (ℕ → Bool) → Bytes → Type 0
 Begins test [] = ⊥
 Begins test (b ∷ bs) = test b ≡ true
@@ -44,7 +44,7 @@ pub record Unclosed (part rest : Bytes) : Type 0 where
   pub unclosed : NoClosing inside
   pub last : rest ≡ []
 
--- one byte that begins nothing else
+-- one byte that begins no name, number, run of blanks or sign
 pub record Lone (part rest : Bytes) : Type 0 where
   pub byte : ℕ
   pub one : part ≡ byte ∷ []
@@ -59,7 +59,8 @@ pub record Commented (part rest : Bytes) : Type 0 where
   pub opens : part ≡ codes "(*" ++ (inside ++ codes "*)")
   pub first : FirstClosing (length inside) (inside ++ (codes "*)" ++ rest))
 
--- what the bytes of each kind are, given what stands behind them; a sign is no `(` before a `*`
+-- what the bytes of each kind are, given what stands behind them; a sign is no `(` before a `*`; no bytes at all pass for a number and for blanks, so the law
+-- of scanning says besides that no part is empty
 abbrev pub Reads : Kind → Bytes → Bytes → Type 0
 Reads name part rest = Begins begins_name part × Run is_in_name part rest
 Reads number part rest = Run is_digit part rest
@@ -70,11 +71,11 @@ Reads unknown part rest = Unclosed part rest ⊎ Lone part rest
 
 -- ── the tokens of a text ──
 
--- the part of the text that a token has
+-- the part of the text that a token has, cut where the text ends; nothing where it begins beyond
 abbrev pub bytes_at : Bytes → Token → Bytes
 bytes_at text t = take t.len (drop t.offset text)
 
--- the bytes of a text that stand behind a token's part
+-- the bytes of a text that stand behind a token's part; none where the part ends at the end of the text or beyond
 abbrev pub behind : Bytes → Token → Bytes
 behind text t = drop (t.offset + t.len) text
 

@@ -19,12 +19,12 @@ signs =
 abbrev pub words : List (Bytes × ℕ)
 words = (codes "AND", 20) ∷ (codes "OR", 21) ∷ (codes "XOR", 22) ∷ (codes "NOT", 23) ∷ (codes "MOD", 24) ∷ []
 
--- the type that a list gives to these bytes, or another where they are not in it
+-- the type that a list gives to these bytes, by its first entry with them, or else `other`
 abbrev pub type_in : List (Bytes × ℕ) → Bytes → ℕ → ℕ
 type_in [] part other = other
 type_in ((bytes, k) ∷ more) part other = if bytes_eq bytes part then k else type_in more part other
 
--- the length of the longest sign that a text begins with, or 0
+-- the length of the longest sign of this list that a text begins with, or 0 where it begins with none
 abbrev pub longest_in : List (Bytes × ℕ) → Bytes → ℕ
 longest_in [] text = 0
 longest_in ((sign, k) ∷ more) text = max (if starts_with sign text then length sign else 0) (longest_in more text)
@@ -54,12 +54,13 @@ pub record Front : Type 0 where
 abbrev pub front_is : Kind → ℕ → Front
 front_is k n = record { kind = k; len = n }
 
--- from `(*` on: a comment up to the first `*)` after that, or an unknown up to the end of the text
+-- what a text that begins with `(*` begins with, given how many bytes behind the `(*` go up to the first `*)` and with it, if there is one, and the length of
+-- the text: a comment up to there, or else an unknown that is the whole text
 abbrev pub comment_or_rest : Option ℕ → ℕ → Front
 comment_or_rest (Some n) all = front_is comment (2 + n)
 comment_or_rest None all = front_is unknown all
 
--- given the length of the longest sign there: that sign, or one unknown byte where no sign fits
+-- what a text with a byte begins with, given the length of the longest sign there, or 0: that sign, or one unknown byte
 abbrev pub sign_or_byte : ℕ → Front
 sign_or_byte zero = front_is unknown 1
 sign_or_byte (suc n) = front_is sign (suc n)
@@ -103,7 +104,7 @@ pub record Part : Type 0 where
   pub kind : Kind
   pub bytes : Bytes
 
--- the kind of a front, and as many first bytes of the text as its length says
+-- the kind of a front, and as many first bytes of the text as its length says, or all where the text has fewer
 abbrev pub cut : Front → Bytes → Part
 cut f text = record { kind = f.kind; bytes = take f.len text }
 
@@ -116,7 +117,7 @@ first_part (b ∷ bs) = Some (cut (front_of b bs) (b ∷ bs))
 abbrev pub comment_part : Bytes → Option Part
 comment_part text = if starts_with (codes "(*") text then Some (cut (comment_or_rest (closing (drop 2 text)) (length text)) text) else None
 
--- the longest sign that a text begins with, as kind and bytes; none where no sign fits
+-- the longest sign that a text begins with, as kind and bytes; none where it begins with no sign; of a text that begins with `(*` it is the `(`
 abbrev pub sign_part : Bytes → Option Part
 sign_part text = if longest_in signs text == 0 then None else Some (cut (front_is sign (longest_in signs text)) text)
 

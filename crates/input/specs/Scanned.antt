@@ -11,7 +11,7 @@ token_of kind part index offset len =
     record { ttype = pos (type_of kind part); channel = channel_of kind; index = pos index; offset = offset; len = len }
 
 -- the tokens of a text, at most as many as the first number, which is there so that the recursion ends; the first has this index and this offset, and each
--- later one those that follow
+-- later one the next index, and the offset where the one before it ends
 abbrev pub scanned_within : ℕ → ℕ → ℕ → Bytes → List Token
 scanned_within zero index offset text = []
 scanned_within (suc more) index offset [] = []

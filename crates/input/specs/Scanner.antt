@@ -6,13 +6,14 @@ use Rattle.input.specs.Streams.{Stream, Supply}
 use Rattle.input.specs.Lookahead.{stream}
 use Rattle.input.specs.Scanned.{scanned_from, end_at}
 
--- what is still to be scanned: the tokens of the rest, and the end behind them
+-- what is still to be scanned: the tokens of the rest, the first with the cursor's index and offset, and the end, with the index behind the last of them and
+-- the offset behind the last byte
 abbrev pub still_to_scan : Cursor → Supply
 still_to_scan c =
     let tokens = scanned_from c.index c.offset c.rest.now in
     record { tokens = tokens; end = end_at (c.index + length tokens) (c.offset + length c.rest.now) }
 
--- the stream that a scanner is: previous is what was consumed last; ahead are the two tokens held, up to the first that is the end, and, if neither is, those
--- still to be scanned
+-- the stream that a scanner is: previous is what was consumed last; ahead is nothing if the current token is an end, or else it, and, unless the second is an
+-- end, the second and those still to be scanned; the end is the first of the two that is an end, or else that of what is still to be scanned
 abbrev pub scanner_stream : Lookahead Cursor → Stream
 scanner_stream s = stream still_to_scan s

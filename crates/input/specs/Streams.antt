@@ -15,7 +15,7 @@ abbrev pub first_of : List Token → Token → Token
 first_of [] end = end
 first_of (t ∷ ts) end = t
 
--- the tokens behind the first
+-- the tokens behind the first; none where there are none
 abbrev pub rest_of : List Token → List Token
 rest_of [] = []
 rest_of (t ∷ ts) = ts

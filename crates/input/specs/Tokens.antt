@@ -9,7 +9,7 @@ minus_one (pos n) = false
 minus_one (negsuc zero) = true
 minus_one (negsuc (suc n)) = false
 
--- the end of the input has type −1
+-- whether a token's type is −1, which is that of the end, whatever its index
 abbrev pub is_end : Token → Bool
 is_end t = minus_one t.ttype
 
@@ -18,11 +18,11 @@ abbrev pub is_type : ℤ → Bool
 is_type (pos n) = nat_le n 65535
 is_type (negsuc n) = false
 
--- whether a token is of the input: type 0 to 65,535 and index 0 or more; a token that was made up has index −1
+-- whether a token's fields are those of a token of the input: type 0 to 65,535 and index 0 or more; a token that was made up has index −1
 abbrev pub is_input : Token → Bool
 is_input t = is_type t.ttype && non_neg t.index
 
--- whether a token is the end of an input: type −1, index 0 or more
+-- whether a token's fields are those of the end of an input: type −1, index 0 or more
 abbrev pub is_input_end : Token → Bool
 is_input_end t = is_end t && non_neg t.index
 

@@ -1,6 +1,6 @@
 -- A recording, read line by line.
-use Rattle.std.proofs.Common.{◌≡◌, ℕ, ◌+◌, ◌<◌, ◌⊎◌, ◌==◌, Bool, true, false, cond, List, [], ◌∷◌, ◌++◌, length, get_or, drop, Ok, Err, Result, MatchResult, IsOkAnd, refl, sym, ap, ◌∙◌, subst, inl, inr, arith}
-use Rattle.std.proofs.lemmas.List.{drop_more, drop_all}
+use Rattle.std.proofs.Common.{◌≡◌, ℕ, ◌+◌, ◌<◌, ◌≤◌, ◌⊎◌, ◌==◌, Bool, true, false, cond, List, [], ◌∷◌, ◌++◌, length, get_or, drop, Ok, Err, Result, MatchResult, IsOkAnd, IfErr, refl, sym, ap, ◌∙◌, subst, inl, inr, arith}
+use Rattle.std.proofs.lemmas.List.{drop_more, drop_all, length-append}
 use Rattle.std.proofs.lemmas.List.FromFn.{length-enumerate_from, get_or-enumerate_from}
 use Rattle.std.specs.List.{onto_first, slice_split, enumerate_from}
 use Rattle.replay.specs.declared.fault.Fault.{Fault}
@@ -12,7 +12,7 @@ use Rattle.replay.specs.declared.recording.Recording.{Recording}
 use Rattle.replay.specs.Bytes.{Bytes}
 use Rattle.replay.specs.Faults.{at_line, Gives}
 use Rattle.replay.specs.Lines.{says}
-use Rattle.replay.specs.Recordings.{lines, Said, with_line, go_on, with_lines, nothing_said, recorded, IsReadAs, Recorded}
+use Rattle.replay.specs.Recordings.{lines, Said, with_line, go_on, with_lines, nothing_said, recorded, IsReadAs, Reached, Recorded}
 
 -- the pieces between LFs (10)
 abbrev pub pieces : Bytes → List Bytes
@@ -83,18 +83,40 @@ all_read meant number n s ps r inv all done =
     subst (λ (m : Result Said BadLine). IsOkAnd m (λ t. IsReadAs t r))
     (sym (inv ∙ ap (with_lines number s) (drop_all n ps (omega (arith, all, length-enumerate_from 0 ps))))) done
 
--- the answer to a line that was not read
-refused_at : (meant : Result Said BadLine) (w : Result Said Fault) (number : ℕ) (e : LineError) → Gives (λ (t : Said). t) w (Err e)
-    → ((fault : Fault) → w ≡ Err fault → meant ≡ Err (record { number = number; fault = fault })) → Recorded meant (Err (at_line number e))
-refused_at meant w number (Wrong fault) is then = then fault is
-refused_at meant w number Memory is then = tt
+-- there is at most one piece more than lines
+pub few_pieces : (input : Bytes) → length (pieces input) ≤ length (lines input) + 1
+few_pieces input = go (cut input)
+  where
+    go : IsCut (lines input) (pieces input) → length (pieces input) ≤ length (lines input) + 1
+    go (inl same) = omega (arith, ap length same)
+    go (inr more) = omega (arith, ap length more, length-append (lines input) ([] ∷ []))
 
-pub line_refused : (meant : Result Said BadLine) (w : Result Said Fault) (n i : ℕ) (r : Result Said LineError) (e : LineError) (f : ReadError) (out : Result Recording ReadError)
-    → Gives (λ (t : Said). t) w r → r ≡ Err e → f ≡ at_line (i + 1) e → i ≡ n → out ≡ Err f
-    → ((fault : Fault) → w ≡ Err fault → meant ≡ Err (record { number = n + 1; fault = fault })) → Recorded meant out
-line_refused meant w n i r e f out gave is at same goes then =
+-- what is said of lines is wrong at none before the first
+pub wrong_later : (number : ℕ) (s : Said) (ls : List Bytes) → IfErr (with_lines number s ls) (λ bad. number ≤ bad.number)
+wrong_later number s [] = tt
+wrong_later number s (l ∷ ls) = go (with_line s (says l)) (λ t. wrong_later (number + 1) t ls)
+  where
+    later : (r : Result Said BadLine) → IfErr r (λ bad. number + 1 ≤ bad.number) → IfErr r (λ bad. number ≤ bad.number)
+    later (Ok t) h = tt
+    later (Err bad) h = omega arith
+
+    go : (w : Result Said Fault) → ((t : Said) → IfErr (with_lines (number + 1) t ls) (λ bad. number + 1 ≤ bad.number))
+        → IfErr (go_on number w (λ t. with_lines (number + 1) t ls)) (λ bad. number ≤ bad.number)
+    go (Ok t) ih = later (with_lines (number + 1) t ls) (ih t)
+    go (Err fault) ih = omega arith
+
+-- the answer to a line that was not read
+refused_at : (input : Bytes) (w : Result Said Fault) (number : ℕ) (e : LineError) → Gives (λ (t : Said). t) w (Err e) → Reached input number
+    → ((fault : Fault) → w ≡ Err fault → recorded input ≡ Err (record { number = number; fault = fault })) → Recorded input (Err (at_line number e))
+refused_at input w number (Wrong fault) is at then = then fault is
+refused_at input w number Memory is at then = at
+
+pub line_refused : (input : Bytes) (w : Result Said Fault) (n i : ℕ) (r : Result Said LineError) (e : LineError) (f : ReadError) (out : Result Recording ReadError)
+    → Gives (λ (t : Said). t) w r → r ≡ Err e → f ≡ at_line (i + 1) e → i ≡ n → out ≡ Err f → Reached input (n + 1)
+    → ((fault : Fault) → w ≡ Err fault → recorded input ≡ Err (record { number = n + 1; fault = fault })) → Recorded input out
+line_refused input w n i r e f out gave is at same goes reached then =
     let last : out ≡ Err (at_line (n + 1) e) = cc (ap (λ (k : ℕ). at_line (k + 1) e) same) in
-    subst (Recorded meant) (sym last) (refused_at meant w (n + 1) e (subst (Gives (λ (t : Said). t) w) is gave) then)
+    subst (Recorded input) (sym last) (refused_at input w (n + 1) e (subst (Gives (λ (t : Said). t) w) is gave) reached then)
 
 -- what `map_err` kept, and what it turned into another error
 pub kept : {H E : Type 0} (F : Type 0) (r : Result H E) (h : H) → MatchResult r (λ x. ◌≡◌ {A = Result H F} (Ok h) (Ok x)) (λ e. ⊥) → r ≡ Ok h

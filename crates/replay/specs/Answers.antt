@@ -1,10 +1,12 @@
 -- What the program prints, by what it reads.
 use Rattle.std.specs.Prelude.{◌≡◌, ℕ, ◌⊎◌, [], Ok, Err, Result}
 use Rattle.std.specs.Option.{unwrap_or}
+use Rattle.replay.specs.declared.OutOfMemory.{OutOfMemory}
+use Rattle.replay.specs.declared.OutOfMemory.TheVariants.{AtLine, ForReport}
 use Rattle.replay.specs.declared.fault.BadLine.{BadLine}
 use Rattle.replay.specs.Bytes.{Bytes}
 use Rattle.replay.specs.Faults.{bad_line, short_at}
-use Rattle.replay.specs.Recordings.{Said, recorded}
+use Rattle.replay.specs.Recordings.{Said, recorded, Reached}
 use Rattle.replay.specs.Printed.{line_of, text_printed}
 
 -- what is printed for a recording: the tokens of its text (an empty one if there is no text line), or the refusal of a text over 65,536 bytes, or the number
@@ -17,6 +19,11 @@ answer (Err bad) = line_of (bad_line bad)
 abbrev pub no_memory : ℕ → Bytes
 no_memory number = line_of (short_at (record { line = number }))
 
--- what is printed is the answer, or that there was no memory, at a line of any number: any allocation may fail, so nothing here says when that is so
+-- memory was short at a line that was reached, or for the report
+abbrev pub ShortAt : Bytes → OutOfMemory → Type 0
+ShortAt input (AtLine n) = Reached input n.line
+ShortAt input (ForReport e) = Unit {0}
+
+-- what is printed is the answer, or that there was no memory, at a line that was reached: any allocation may fail, so nothing here says when that is so
 abbrev pub Answers : Bytes → Bytes → Type 0
-Answers input out = (out ≡ answer (recorded input)) ⊎ ((number : ℕ) × (out ≡ no_memory number))
+Answers input out = (out ≡ answer (recorded input)) ⊎ ((number : ℕ) × Reached input number × (out ≡ no_memory number))

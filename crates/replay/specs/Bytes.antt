@@ -10,7 +10,7 @@ pub use Rattle.input.specs.Bytes.{Bytes}
 abbrev pub up_to : ℕ → Bytes → Bytes
 up_to mark bytes = before_first (λ b. b == mark) bytes
 
--- the bytes behind the first mark, if there is one
+-- the bytes behind the first mark, of which there may be none; `None` where there is no mark
 abbrev pub behind : ℕ → Bytes → Option Bytes
 behind mark bytes = option_map (λ i. drop (i + 1) bytes) (position (λ b. b == mark) bytes)
 
@@ -38,8 +38,9 @@ unescaped [] = Some []
 unescaped (b ∷ []) = if b == 92 then None else Some (b ∷ [])
 unescaped (b ∷ (e ∷ bs)) = if b == 92 then in_front (meant_by e) (unescaped bs) else in_front (Some b) (unescaped (e ∷ bs))
 
--- none only at the end; an unknown escape only where the text has one; else a byte and a shorter rest, and the text stands for the byte and then what the
--- rest stands for, or has an unknown escape where the rest has one
+-- what reading the first byte of a text with escapes may answer: `None` only if it is empty; an unknown escape only if the text stands for nothing, since a \
+-- here or further on begins no escape; else a byte and a shorter rest, and the text stands for the byte and then what the rest does, or for nothing where the
+-- rest does not
 abbrev pub ReadsFirst : Bytes → Result (Option (ℕ × Bor Bytes)) Fault → Type 0
 ReadsFirst text (Ok None) = text ≡ []
 ReadsFirst text (Ok (Some (b, rest))) = (unescaped text ≡ in_front (Some b) (unescaped rest.now)) × (length rest.now < length text)

@@ -26,12 +26,12 @@ bad_line b = codes "line " ++ (decimal b.number ++ (codes ": " ++ message b.faul
 abbrev pub short_at : NoMemory → Bytes
 short_at n = codes "line " ++ (decimal n.line ++ codes ": there is no memory left")
 
--- why a recording was not read: the number of the line at which that was found, with its fault or with want of memory
+-- the error of the line of this number: a fault makes it a `BadLine`, and want of memory a `NoMemory`
 abbrev pub at_line : ℕ → LineError → ReadError
 at_line number (Wrong fault) = read.BadLine (record { number = number; fault = fault })
 at_line number Memory = read.NoMemory (record { line = number })
 
--- what a call answers stands for the value that is meant, or is the fault that is meant, or says that memory was short, whatever is meant
+-- whether a result fits what is meant: `Ok y` only if `value y` is meant, a fault only if that fault is, and want of memory always
 abbrev pub Gives : {X Y : Type 0} → (Y → X) → Result X Fault → Result Y LineError → Type 0
 Gives value meant (Ok y) = meant ≡ Ok (value y)
 Gives value meant (Err (Wrong fault)) = meant ≡ Err fault

@@ -15,7 +15,7 @@ use Rattle.replay.specs.Keywords.{name_of, keyword}
 abbrev pub is_space : ℕ → Bool
 is_space b = b == 32 || b == 9
 
--- nothing but spaces and tabs
+-- nothing but spaces and tabs, or nothing at all
 abbrev pub is_blank : Bytes → Bool
 is_blank line = list_all is_space line
 
@@ -24,8 +24,8 @@ abbrev pub is_comment : Bytes → Bool
 is_comment [] = false
 is_comment (b ∷ bs) = b == 35
 
--- what a line may say: nothing; text, with its escapes unread; rules, with what stands behind the word if there is anything; a keyword that is not read yet;
--- or a fault
+-- what a line may say: nothing; text, with its escapes unread; rules, with what stands behind the space after the word, or `None` where there is no space; a
+-- keyword that is not read yet; or a fault
 pub data Saying : Type 0 where
   nothing : Saying
   some_text : Bytes → Saying
@@ -33,7 +33,7 @@ pub data Saying : Type 0 where
   not_yet : Keyword → Saying
   wrong : Fault → Saying
 
--- what a line says, by the keyword that its first word is and by what stands behind the space (32) after it, if there is one
+-- what a line says, by the keyword that its first word is and by what stands behind the space (32) after it, if there is one; a text without a space is empty
 abbrev pub by_keyword : Option Keyword → Option Bytes → Saying
 by_keyword None rest = wrong UnknownWord
 by_keyword (Some k) rest =
@@ -41,7 +41,8 @@ by_keyword (Some k) rest =
     else (if bytes_eq (name_of k) (codes "rules") then some_rules rest
     else not_yet k)
 
--- what a line says: nothing if it is blank or a comment, else by its first word
+-- what a line says: nothing if it is blank or a comment, else by its first word, which ends before the first space (a tab is part of it, and it is empty in a
+-- line that begins with a space)
 abbrev pub says : Bytes → Saying
 says line = if is_blank line || is_comment line then nothing else by_keyword (keyword (up_to 32 line)) (behind 32 line)
 

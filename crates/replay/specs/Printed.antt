@@ -51,13 +51,13 @@ tally_of ts = record { visible = count_by is_visible ts; hidden = count_by is_hi
 abbrev pub counted : Tally → Token → Tally
 counted n t = record { visible = n.visible + (if is_visible t then 1 else 0); hidden = n.hidden + (if is_hidden t then 1 else 0); unknown = n.unknown + (if is_unknown t then 1 else 0) }
 
--- each of a tally's three numbers is at most 65,536
+-- each of a tally's three numbers is at most 65,536, so that one more can be counted
 pub record Few (n : Tally) : Type 0 where
   pub visible : n.visible ≤ 65536
   pub hidden : n.hidden ≤ 65536
   pub unknown : n.unknown ≤ 65536
 
--- `N tokens, V on channel 0, H on channel 1, U unknown` without an LF, each number in decimal, where N is V + H
+-- `N tokens, V on channel 0, H on channel 1, U unknown` without an LF, each number in decimal: V, H and U are the tally's, and N is V + H
 abbrev pub tally_line : Tally → Bytes
 tally_line t =
     decimal (t.visible + t.hidden) ++ (codes " tokens, " ++ (decimal t.visible ++ (codes " on channel 0, " ++ (decimal t.hidden ++ (codes " on channel 1, "
@@ -65,7 +65,7 @@ tally_line t =
 
 -- ── a text: its tokens, the end, which has no bytes, and how many tokens there are ──
 
--- the end of a text: behind its last token and its last byte
+-- the end of a text: its index is the number of the tokens, its offset the length of the text
 abbrev pub end_of : Bytes → Token
 end_of text = end_at (length (scanned text)) (length text)
 

@@ -1,5 +1,5 @@
 -- What a recording says: its text and its rule names.
-use Rattle.std.specs.Prelude.{◌≡◌, ℕ, ◌+◌, Bool, if◌then◌else◌, List, [], ◌∷◌, ◌++◌, length, map, Some, None, Ok, Err, vec_items, Option, Result, IsOkAnd, ok_or, ◌==◌, nat_lt}
+use Rattle.std.specs.Prelude.{◌≡◌, ℕ, ◌+◌, ◌<◌, ◌≤◌, Bool, if◌then◌else◌, List, [], ◌∷◌, ◌++◌, length, map, Some, None, Ok, Err, vec_items, Option, Result, IsOkAnd, IfErr, ok_or, ◌==◌, nat_lt}
 use Rattle.std.specs.Borrow.{Bor}
 use Rattle.std.specs.List.{list_all, onto_first, slice_split}
 use Rattle.std.specs.Option.{unwrap_or}
@@ -14,7 +14,8 @@ use Rattle.replay.specs.Lines.{Saying, nothing, some_text, some_rules, not_yet, 
 
 -- ── lines and words ──
 
--- the lines of an input: each ends before an LF (10), and the last one there or where the input ends
+-- the lines of an input: each ends before an LF (10), the last one there or where the input ends; behind a last LF no further one begins, and an empty input has
+-- none
 abbrev pub lines : Bytes → List Bytes
 lines [] = []
 lines (b ∷ bs) = if b == 10 then [] ∷ lines bs else onto_first b (lines bs)
@@ -29,13 +30,12 @@ words bytes = slice_split (λ b. b == 32) bytes
 abbrev pub none_empty : List Bytes → Bool
 none_empty names = list_all (λ name. nat_lt 0 (length name)) names
 
--- the words of some bytes (of none, one empty word); no words where there is nothing to cut
+-- the words of some bytes, which are one empty word if there are no bytes; no words of `None`
 abbrev pub words_if_any : Option Bytes → List Bytes
 words_if_any None = []
 words_if_any (Some bytes) = words bytes
 
--- the words of some bytes as names, refused if any is empty, as where there are no bytes, two spaces together or a space at an end; no names where there is
--- nothing to cut
+-- the words of some bytes as names, refused if any is empty, as where there are no bytes, two spaces together or a space at an end; no names of `None`
 abbrev pub names : Option Bytes → Result (List Bytes) Fault
 names bytes = if none_empty (words_if_any bytes) then Ok (words_if_any bytes) else Err EmptyName
 
@@ -97,8 +97,13 @@ bytes_in = map (λ r. r.now)
 abbrev pub IsReadAs : Said → Recording → Type 0
 IsReadAs s r = (vec_items r.text ≡ unwrap_or s.text []) × (bytes_in (vec_items r.rules) ≡ s.rules)
 
--- reading an input gives what it says, or its first wrong line, or finds that memory is short, whatever it says
-abbrev pub Recorded : Result Said BadLine → Result Recording ReadError → Type 0
-Recorded meant (Ok r) = IsOkAnd meant (λ s. IsReadAs s r)
-Recorded meant (Err (read.BadLine bad)) = meant ≡ Err bad
-Recorded meant (Err (read.NoMemory n)) = Unit {0}
+-- the number is that of a line of the input, counted from 1, or of the empty one behind the last, and no line before it is wrong
+abbrev pub Reached : Bytes → ℕ → Type 0
+Reached input number = (0 < number) × (number ≤ length (lines input) + 1) × IfErr (recorded input) (λ bad. number ≤ bad.number)
+
+-- whether `Recording::read` may answer this: a recording only if it is what the input says, a wrong line only if it is the first, and want of memory at any line
+-- that was reached
+abbrev pub Recorded : Bytes → Result Recording ReadError → Type 0
+Recorded input (Ok r) = IsOkAnd (recorded input) (λ s. IsReadAs s r)
+Recorded input (Err (read.BadLine bad)) = recorded input ≡ Err bad
+Recorded input (Err (read.NoMemory n)) = Reached input n.line

@@ -1,10 +1,10 @@
 // Reads a recording on standard input, and prints the tokens of its text.
 #![tactic(auto)]
 
-ghost use Rattle.std.specs.Prelude.{◌≡◌, IfOk};
+ghost use Rattle.std.specs.Prelude.{◌≡◌, IfOk, IfErr};
 ghost use Rattle.replay.specs.declared.Failure.TheVariants.{Memory, Io};
 ghost use Rattle.replay.specs.declared.OutOfMemory.TheVariants.{ForReport};
-ghost use Rattle.replay.specs.Answers.{answer, Answers};
+ghost use Rattle.replay.specs.Answers.{answer, ShortAt, Answers};
 ghost use Rattle.replay.specs.Recordings.{recorded};
 
 use crate::fault::{NoMemory, ReadError};
@@ -61,7 +61,8 @@ impl From<AllocError> for OutOfMemory {
 
 // The answer to an input, or where memory was short.
 fn answer(heap: Global, input: &[u8]) -> Result<Report, OutOfMemory>
-    ensures { IfOk result (λ report. report ≡ answer (recorded input.now)) }
+    ensures report { IfOk result (λ report. report ≡ answer (recorded input.now)) }
+    ensures short { IfErr result (ShortAt input.now) }
 {
     let mut report = Report::new(heap);
     match Recording::read(heap, input) {

@@ -3,7 +3,7 @@ ghost use Rattle.std.specs.Prelude.{◌≡◌, IfOk, vec_items};
 ghost use Rattle.std.specs.Option.{option_map};
 ghost use Rattle.replay.specs.Faults.{Gives};
 ghost use Rattle.replay.specs.Lines.{says};
-ghost use Rattle.replay.specs.Recordings.{bytes_in, names, continued, with_line, nothing_said, recorded, IsReadAs, Recorded};
+ghost use Rattle.replay.specs.Recordings.{bytes_in, names, continued, with_line, nothing_said, IsReadAs, Recorded};
 
 use crate::bytes::unescape;
 use crate::fault::{Fault, LineError, ReadError};
@@ -109,7 +109,7 @@ impl<'a> Head<'a> {
 
 impl<'a> Recording<'a> {
     pub fn read(heap: Global, input: &'a [u8]) -> Result<Recording<'a>, ReadError>
-        ensures { Recorded (recorded input.now) result }
+        ensures { Recorded input.now result }
     {
         let mut head = Head::new(heap);
         // An LF at the end cuts off one more piece: it is empty, so it says nothing.

@@ -10,12 +10,12 @@ lent s = s.items.now
 abbrev pub room : {T : Type 0} → Stack T → ℕ
 room s = length (lent s)
 
--- the first `count` of the lent places, the other way round: the element pushed last stands first
+-- the elements that a stack holds, the one pushed last first: what stands in its first `count` places, in reverse order
 abbrev pub contents : {T : Type 0} → Stack T → List T
 contents s = reverse (take s.count (lent s))
 
--- the number by which the logic knows the borrow of the lent slice: while it stays the same, what stands in the places when the stack is gone is what the
--- lender finds in the slice
+-- the number of the mutable borrow of the lent slice: where two stacks have the same, they have the same slice, and what stands in its places at the end of the
+-- borrow is what the slice holds then
 abbrev pub lender : {T : Type 0} → Stack T → ℕ
 lender s = s.items.ghost_name
 
