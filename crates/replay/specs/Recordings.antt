@@ -97,9 +97,10 @@ bytes_in = map (λ r. r.now)
 abbrev pub IsReadAs : Said → Recording → Type 0
 IsReadAs s r = (vec_items r.text ≡ unwrap_or s.text []) × (bytes_in (vec_items r.rules) ≡ s.rules)
 
--- the number is that of a line of the input, counted from 1, or of the empty one behind the last, and no line before it is wrong
+-- the number is that of a line of the input, counted from 1, or of the empty piece that stands behind a last LF (10) and in an empty input, and no line before
+-- it is wrong
 abbrev pub Reached : Bytes → ℕ → Type 0
-Reached input number = (0 < number) × (number ≤ length (lines input) + 1) × IfErr (recorded input) (λ bad. number ≤ bad.number)
+Reached input number = (0 < number) × (number ≤ length (slice_split (λ b. b == 10) input)) × IfErr (recorded input) (λ bad. number ≤ bad.number)
 
 -- whether `Recording::read` may answer this: a recording only if it is what the input says, a wrong line only if it is the first, and want of memory at any line
 -- that was reached

@@ -37,15 +37,17 @@ fn escape_meaning(b: u8) -> Option<u8>
 fn first_byte(text: &[u8]) -> Result<Option<(u8, &[u8])>, Fault>
     ensures { ReadsFirst text.now result }
 {
-    match text {
-        [] => Ok(None),
-        [b'\\', e, after @ ..] => {
-            let b = escape_meaning(*e).ok_or(Fault::UnknownEscape)?;
-            Ok(Some((b, after)))
-        }
-        [b'\\'] => Err(Fault::UnknownEscape),
-        [b, after @ ..] => Ok(Some((*b, after))),
+    let [b, after @ ..] = text else {
+        return Ok(None);
+    };
+    if *b != b'\\' {
+        return Ok(Some((*b, after)));
     }
+    let [e, after @ ..] = after else {
+        return Err(Fault::UnknownEscape);
+    };
+    let b = escape_meaning(*e).ok_or(Fault::UnknownEscape)?;
+    Ok(Some((b, after)))
 }
 
 // What a text with escapes stands for.

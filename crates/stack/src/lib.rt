@@ -80,7 +80,7 @@ impl<'a, T: Copy> Stack<'a, T> {
         ensures refused { OnErr result (self.new ≡ self.old) }
         ensures places { SamePlaces self.old self.new }
     {
-        if self.count == self.items.len() {
+        if self.count >= self.items.len() {
             return Err(Full);
         }
         // By index, since std does not say what a slice holds after its `get_mut`.

@@ -8,7 +8,7 @@ use Rattle.replay.specs.declared.fault.BadLine.{BadLine}
 use Rattle.replay.specs.declared.fault.ReadError.{ReadError}
 use Rattle.replay.specs.Lines.{says}
 use Rattle.replay.specs.Recordings.{Said, with_line, with_lines, recorded}
-use Rattle.replay.proofs.Reading.{pieces, from_pieces, piece_there, few_pieces, wrong_later, line_read, line_wrong, all_read, line_refused, kept, turned}
+use Rattle.replay.proofs.Reading.{pieces, from_pieces, piece_there, wrong_later, line_read, line_wrong, all_read, line_refused, kept, turned}
 use Rattle.replay.proofs.recording.Recording.read.Goals as goal
 use Rattle.replay.proofs.recording.Recording.read.Goals.{In-Some}
 
@@ -37,7 +37,7 @@ returns-in_err-head c =
     let later : IfErr (recorded c.args.input.now) (λ bad. n + 1 ≤ bad.number) =
     subst (λ (m : Result Said BadLine). IfErr m (λ bad. n + 1 ≤ bad.number)) (sym c.loop-i.invariant.2) (wrong_later (n + 1) before (drop n ps)) in
     line_refused c.args.input.now (with_line before (says line)) n c.in-Some.i c.with_line.result r.0 c.in_err-head.field-0.0 c.from_residual.result
-    c.with_line.ensures r.1 (let e = r.2 in search (rules, tests)) t.1 (p.1 ∙ ap (λ (e : ReadError). Err e) p.2) (omega arith, omega (arith, t.0, few_pieces c.args.input.now), later)
+    c.with_line.ensures r.1 (let e = r.2 in search (rules, tests)) t.1 (p.1 ∙ ap (λ (e : ReadError). Err e) p.2) (omega arith, omega (arith, t.0), later)
     (λ fault is. c.loop-i.invariant.2 ∙ line_wrong (n + 1) before (pieces c.args.input.now) n line t.0 t.2 fault is)
 
 pub loop-i-preserved : goal.loop-i-preserved
