@@ -2,7 +2,7 @@
 use Rattle.std.specs.Prelude.{if◌then◌else◌, List, [], ◌∷◌, None, ◌==◌}
 use Rattle.input.specs.declared.token.Token.{Token}
 use Rattle.input.specs.declared.channel_filter.Visible.{Visible}
-use Rattle.input.specs.declared.lookahead.Lookahead.{Lookahead}
+use Rattle.input.specs.declared.channel_filter.ChannelFilter.{ChannelFilter}
 use Rattle.input.specs.Streams.{Stream, Supply}
 use Rattle.input.specs.Lookahead.{stream}
 
@@ -22,5 +22,5 @@ visible s = record { tokens = on_channel_0 s.ahead; end = s.end }
 -- what a filter means, given what each stream means: previous is what it consumed last; ahead is nothing if its current token is an end, or else that token,
 -- and, unless its second is an end, the second and those on channel 0 that are still ahead in its stream; the end is the first of the two that is an end, or
 -- else its stream's
-abbrev pub filter_stream : {S : Type 0} → (S → Stream) → Lookahead (Visible S) → Stream
-filter_stream meaning f = stream (λ (v : Visible _). visible (meaning v.stream)) f
+abbrev pub filter_stream : {S : Type 0} → (S → Stream) → ChannelFilter S → Stream
+filter_stream meaning f = stream (λ (v : Visible _). visible (meaning v.stream)) f.tokens

@@ -5,6 +5,7 @@ use Rattle.std.specs.Int.Signed.{non_neg}
 use Rattle.input.specs.declared.token.Token.{Token}
 use Rattle.input.specs.declared.lookahead.Lookahead.{Lookahead}
 use Rattle.input.specs.declared.channel_filter.Visible.{Visible}
+use Rattle.input.specs.declared.channel_filter.ChannelFilter.{ChannelFilter}
 use Rattle.input.specs.Tokens.{minus_one, is_end, is_type, is_input, is_input_end, has_place}
 use Rattle.input.specs.Streams.{Stream, WellFormed, Supply, SupplyFormed, Inputs}
 use Rattle.input.specs.Held.{HeldFormed, held_tokens, held_end}
@@ -69,7 +70,7 @@ pub visible_formed : (s : Stream) → WellFormed s → SupplyFormed (visible s)
 visible_formed s f = record { inputs = every_visible s.ahead f.inputs; ends = f.ends }
 
 -- if every stream of a type is `WellFormed`, so is every filter over that type
-pub filter_formed : {S : Type 0} (meaning : S → Stream) → ((s : S) → WellFormed (meaning s)) → (f : Lookahead (Visible S)) → WellFormed (filter_stream meaning f)
+pub filter_formed : {S : Type 0} (meaning : S → Stream) → ((s : S) → WellFormed (meaning s)) → (f : ChannelFilter S) → WellFormed (filter_stream meaning f)
 filter_formed {S} meaning formed f =
-    let source = f.source.stream in
-    stream_formed (λ (v : Visible S). visible (meaning v.stream)) f (visible_formed (meaning source) (formed source))
+    let source = f.tokens.source.stream in
+    stream_formed (λ (v : Visible S). visible (meaning v.stream)) f.tokens (visible_formed (meaning source) (formed source))

@@ -1,7 +1,7 @@
 -- What a scanner of the code means.
 use Rattle.std.specs.Prelude.{◌+◌, length}
 use Rattle.input.specs.declared.scanner.Cursor.{Cursor}
-use Rattle.input.specs.declared.lookahead.Lookahead.{Lookahead}
+use Rattle.input.specs.declared.scanner.Scanner.{Scanner}
 use Rattle.input.specs.Streams.{Stream, Supply}
 use Rattle.input.specs.Lookahead.{stream}
 use Rattle.input.specs.Scanned.{scanned_from, end_at}
@@ -15,5 +15,5 @@ still_to_scan c =
 
 -- the stream that a scanner is: previous is what was consumed last; ahead is nothing if the current token is an end, or else it, and, unless the second is an
 -- end, the second and those still to be scanned; the end is the first of the two that is an end, or else that of what is still to be scanned
-abbrev pub scanner_stream : Lookahead Cursor → Stream
-scanner_stream s = stream still_to_scan s
+abbrev pub scanner_stream : Scanner → Stream
+scanner_stream s = stream still_to_scan s.tokens

@@ -2,7 +2,7 @@
 use Rattle.std.specs.Prelude.{◌≡◌, ℕ, zero, suc, ◌+◌, Bool, true, false, cond, List, [], ◌∷◌, length, take, drop, nat_le, refl}
 use Rattle.std.proofs.lemmas.Bool.{and_from}
 use Rattle.input.specs.declared.scanner.Cursor.{Cursor}
-use Rattle.input.specs.declared.lookahead.Lookahead.{Lookahead}
+use Rattle.input.specs.declared.scanner.Scanner.{Scanner}
 use Rattle.std.specs.Str.{bytes_eq}
 use Rattle.input.specs.Bytes.{Bytes, capitals}
 use Rattle.input.specs.Streams.{WellFormed, SupplyFormed, Inputs}
@@ -55,5 +55,5 @@ pub still_formed : (c : Cursor) → SupplyFormed (still_to_scan c)
 still_formed c = record { inputs = inputs (length c.rest.now) c.index c.offset c.rest.now; ends = refl }
 
 -- a scanner is a well-formed stream
-pub scanner_formed : (s : Lookahead Cursor) → WellFormed (scanner_stream s)
-scanner_formed s = stream_formed still_to_scan s (still_formed s.source)
+pub scanner_formed : (s : Scanner) → WellFormed (scanner_stream s)
+scanner_formed s = stream_formed still_to_scan s.tokens (still_formed s.tokens.source)

@@ -1,12 +1,12 @@
 -- A text of a program, and when a slice is refused as one.
-use Rattle.std.specs.Prelude.{◌≡◌, ℕ, ◌<◌, ◌≤◌, length, codes, Ok, Err, Result}
+use Rattle.std.specs.Prelude.{◌≡◌, ℕ, ◌<◌, ◌≤◌, length, take, codes, Ok, Err, Result}
 use Rattle.input.specs.declared.text.Text.{Text}
 use Rattle.input.specs.declared.text.TextTooLong.{TextTooLong}
 use Rattle.input.specs.Bytes.{Bytes}
 
--- the bytes of a `Text`: at most 65,536, as its type says
+-- the bytes of a `Text`: the first 65,536 of its slice, or all where there are fewer
 abbrev pub bytes_of : Text → Bytes
-bytes_of t = t.bytes.now
+bytes_of t = take 65536 t.bytes.now
 
 -- the number of the refusal: always 3, which stands for out of range
 abbrev pub refusal_number : TextTooLong → ℕ

@@ -1,7 +1,7 @@
 // What a parser sees of a stream: the tokens on channel 0.
 ghost use Rattle.std.specs.Prelude.{◌≡◌};
 ghost use Rattle.input.specs.Filter.{visible, filtered, filter_stream};
-ghost use Rattle.input.specs.Formed.{visible_formed};
+ghost use Rattle.input.specs.Formed.{visible_formed, filter_formed};
 
 use crate::channel::Channel;
 use crate::lookahead::Lookahead;
@@ -32,13 +32,40 @@ impl<S: TokenStream> TokenSource for Visible<S> {
 }
 
 // A stream over any stream: its tokens on channel 0.
-pub type ChannelFilter<S> = Lookahead<Visible<S>>;
+#[derive(Drop)]
+pub struct ChannelFilter<S> {
+    tokens: Lookahead<Visible<S>>,
+}
 
-impl<S: TokenStream> Lookahead<Visible<S>> {
+impl<S: TokenStream> ChannelFilter<S> {
     // At opening no token is previous, whatever the stream's own was.
     pub fn new(stream: S) -> ChannelFilter<S>
         ensures { filter_stream S.TokenStream.meaning result ≡ filtered (S.TokenStream.meaning stream) }
     {
-        Lookahead::open(Visible { stream })
+        ChannelFilter {
+            tokens: Lookahead::open(Visible { stream }),
+        }
+    }
+}
+
+impl<S: TokenStream> TokenStream for ChannelFilter<S> {
+    ghost meaning = { filter_stream S.TokenStream.meaning };
+
+    ghost formed = { filter_formed S.TokenStream.meaning S.TokenStream.formed };
+
+    fn current(&self) -> Token {
+        self.tokens.current()
+    }
+
+    fn second(&self) -> Token {
+        self.tokens.second()
+    }
+
+    fn previous(&self) -> Option<Token> {
+        self.tokens.previous()
+    }
+
+    fn consume(&mut self) {
+        self.tokens.consume()
     }
 }

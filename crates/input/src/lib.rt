@@ -5,7 +5,7 @@ pub mod channel;
 pub mod channel_filter;
 pub mod examples;
 pub mod lexeme;
-pub mod lookahead;
+mod lookahead;
 pub mod scanner;
 pub mod text;
 pub mod token;

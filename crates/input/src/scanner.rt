@@ -11,6 +11,7 @@ use crate::lookahead::Lookahead;
 use crate::text::Text;
 use crate::token::Token;
 use crate::token_source::TokenSource;
+use crate::token_stream::TokenStream;
 
 // The part of a text that is still to be scanned.
 #[derive(Drop)]
@@ -23,7 +24,10 @@ pub struct Cursor<'a> {
 }
 
 // A stream over the bytes of a text.
-pub type Scanner<'a> = Lookahead<Cursor<'a>>;
+#[derive(Drop)]
+pub struct Scanner<'a> {
+    tokens: Lookahead<Cursor<'a>>,
+}
 
 impl<'a> Cursor<'a> {
     // A token that begins where the rest does.
@@ -71,10 +75,37 @@ impl<'a> Scanner<'a> {
         ensures lawful { Scans (bytes_of text.entry) (scanner_stream result).ahead }
         ensures only { (ts : List Token) → Scans (bytes_of text.entry) ts → ts ≡ (scanner_stream result).ahead }
     {
-        Lookahead::open(Cursor {
-            rest: text.bytes(),
-            offset: 0,
-            index: 0,
-        })
+        Scanner {
+            tokens: Lookahead::open(Cursor {
+                rest: text.bytes(),
+                offset: 0,
+                index: 0,
+            }),
+        }
+    }
+}
+
+impl<'a> TokenStream for Scanner<'a> {
+    ghost use Rattle.input.specs.Scanner.{scanner_stream};
+    ghost use Rattle.input.specs.ScannerFormed.{scanner_formed};
+
+    ghost meaning = { scanner_stream };
+
+    ghost formed = { scanner_formed };
+
+    fn current(&self) -> Token {
+        self.tokens.current()
+    }
+
+    fn second(&self) -> Token {
+        self.tokens.second()
+    }
+
+    fn previous(&self) -> Option<Token> {
+        self.tokens.previous()
+    }
+
+    fn consume(&mut self) {
+        self.tokens.consume()
     }
 }

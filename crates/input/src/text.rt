@@ -4,10 +4,10 @@ ghost use Rattle.std.specs.Prelude.{◌≡◌, ◌≤◌, length};
 use std::error::Error;
 use std::fmt;
 
+// Of a longer slice, which no call makes a text of, the first 65,536 bytes count.
 #[derive(Clone, Copy, Drop)]
 pub struct Text<'a> {
     bytes: &'a [u8],
-    pub ghost short: { length bytes.now ≤ 65536 },
 }
 
 // Why a slice is refused: it has more than 65,536 bytes.
@@ -54,8 +54,12 @@ impl<'a> Text<'a> {
     }
 
     pub fn bytes(&self) -> &'a [u8]
-        ensures { result.now ≡ bytes_of self.now }
+        ensures value { result.now ≡ bytes_of self.now }
+        ensures short { length result.now ≤ 65536 }
     {
+        if self.bytes.len() > Self::LONGEST {
+            return &self.bytes[0..Self::LONGEST];
+        }
         self.bytes
     }
 }

@@ -8,12 +8,12 @@ use crate::token::Token;
 pub trait TokenSource {
     ghost supply: { Self → Supply };
 
+    // What every source has still to give is well formed: what an implementation owes with it.
+    ghost formed: { (s : Self) → SupplyFormed (supply s) };
+
     // The next token, or the end once there is none.
     fn next_token(&mut self) -> Token
         ensures given { result ≡ first_of (supply self.old).tokens (supply self.old).end }
         ensures left { (supply self.new).tokens ≡ rest_of (supply self.old).tokens }
         ensures same { (supply self.new).end ≡ (supply self.old).end };
-
-    // What every source has still to give is well formed.
-    ghost formed: { (s : Self) → SupplyFormed (supply s) };
 }

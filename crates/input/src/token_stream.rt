@@ -8,6 +8,9 @@ use crate::token::Token;
 pub trait TokenStream {
     ghost meaning: { Self → Stream };
 
+    // The meaning of every stream is well formed: what an implementation owes with it.
+    ghost formed: { (s : Self) → WellFormed (meaning s) };
+
     // The first token ahead, or the end where none is.
     fn current(&self) -> Token
         ensures { result ≡ current_token (meaning self.now) };
@@ -23,7 +26,4 @@ pub trait TokenStream {
     // Moves past the current token; at the end it does nothing.
     fn consume(&mut self)
         ensures { meaning self.new ≡ moved (meaning self.old) };
-
-    // The meaning of every stream is well formed.
-    ghost formed: { (s : Self) → WellFormed (meaning s) };
 }

@@ -175,3 +175,36 @@ fn ten_thousand_openings(rt: HostRuntime) -> Result<(), Fail> {
     assert_eq!(rt; after, -1);
     Ok(())
 }
+
+#[derive(Drop)]
+struct Job<'a> {
+    text: Text<'a>,
+    tokens: Scanner<'a>,
+}
+
+// A text and a scanner may be read in an element of a slice.
+fn first_job(jobs: &[Job]) -> Option<(usize, Token)> {
+    if jobs.is_empty() {
+        return None;
+    }
+    Some((jobs[0].text.bytes().len(), jobs[0].tokens.current()))
+}
+
+// A scanner may be lent as any stream.
+fn second_of(stream: &dyn TokenStream) -> Token {
+    stream.second()
+}
+
+#[test]
+fn a_scanner_in_a_slice(rt: HostRuntime) -> Result<(), Fail> {
+    let text = Text::new(b"a;")?;
+    let jobs = [Job {
+        text,
+        tokens: Scanner::new(text),
+    }];
+    let (token, after) = first(b"a;")?;
+    assert_eq!(rt; first_job(&jobs), Some((2, token)));
+    assert_eq!(rt; second_of(&Scanner::new(text)).ttype, after);
+    assert_eq!(rt; after, 4);
+    Ok(())
+}

@@ -10,7 +10,7 @@ lent s = s.items.now
 abbrev pub room : {T : Type 0} → Stack T → ℕ
 room s = length (lent s)
 
--- the elements that a stack holds, the one pushed last first: what stands in its first `count` places, in reverse order
+-- the elements that a stack holds, the one pushed last first: what stands in its first `count` places, or in all where there are fewer, in reverse order
 abbrev pub contents : {T : Type 0} → Stack T → List T
 contents s = reverse (take s.count (lent s))
 

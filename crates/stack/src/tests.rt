@@ -108,3 +108,15 @@ fn two_in_one_struct(rt: HostRuntime) -> Result<(), Fail> {
     assert_eq!(rt; two.state, 0);
     Ok(())
 }
+
+// A stack may be taken by value, changed and let go.
+fn takes_one(mut stack: Stack<i32>) -> bool {
+    stack.push(1).is_ok()
+}
+
+#[test]
+fn a_stack_by_value(rt: HostRuntime) {
+    let mut places = [0; 1];
+    assert!(rt; takes_one(Stack::new(&mut places)));
+    assert!(rt; !takes_one(Stack::new(&mut [])));
+}
