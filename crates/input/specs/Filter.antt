@@ -19,8 +19,8 @@ filtered s = record { previous = None; ahead = on_channel_0 s.ahead; end = s.end
 abbrev pub visible : Stream → Supply
 visible s = record { tokens = on_channel_0 s.ahead; end = s.end }
 
--- what a filter means, given what each stream means: previous is what it consumed last; ahead is nothing if its current token is an end, or else that token,
--- and, unless its second is an end, the second and those on channel 0 that are still ahead in its stream; the end is the first of the two that is an end, or
--- else its stream's
+-- what a filter means, given what each stream means: previous is the token that it keeps as previous, or none; ahead is nothing if its current token is an
+-- end, or else that token, and, unless its second is an end, the second and those on channel 0 that are still ahead in its stream; the end is the first of the
+-- two that is an end, or else its stream's
 abbrev pub filter_stream : {S : Type 0} → (S → Stream) → ChannelFilter S → Stream
 filter_stream meaning f = stream (λ (v : Visible _). visible (meaning v.stream)) f.tokens

@@ -21,7 +21,7 @@ Stops test (b ∷ bs) = test b ≡ false
 abbrev pub Run : (ℕ → Bool) → Bytes → Bytes → Type 0
 Run test part rest = AllByRecursion (λ b. test b ≡ true) part × Stops test rest
 
--- the list of signs has these bytes, and so a type for them
+-- these bytes are a sign: the list of signs has a type for them, which is above 0 for each of its signs
 abbrev pub IsSign : Bytes → Type 0
 IsSign part = 0 < type_in signs part 0
 
@@ -59,8 +59,10 @@ pub record Commented (part rest : Bytes) : Type 0 where
   pub opens : part ≡ codes "(*" ++ (inside ++ codes "*)")
   pub first : FirstClosing (length inside) (inside ++ (codes "*)" ++ rest))
 
--- what the bytes of each kind are, given what stands behind them; a sign is no `(` before a `*`; no bytes at all pass for a number and for blanks, so the law
--- of scanning says besides that no part is empty
+-- what the bytes of each kind are, given what stands behind them: a name is a letter or `_` and then letters, digits and `_`, a number digits, blanks blank
+-- bytes, and behind them stands no byte that would go on; a sign is the longest that begins there, and no `(` before a `*`; a comment goes from `(*` to the
+-- first `*)` behind that; an unknown is a `(*` that is never closed, to the end of the text, or one byte that begins no name, number, blanks or sign. A number
+-- and blanks may have no bytes here, where no digit or blank is behind; the law of scanning says besides that no part is empty
 abbrev pub Reads : Kind → Bytes → Bytes → Type 0
 Reads name part rest = Begins begins_name part × Run is_in_name part rest
 Reads number part rest = Run is_digit part rest

@@ -60,13 +60,14 @@ abbrev pub comment_or_rest : Option ℕ → ℕ → Front
 comment_or_rest (Some n) all = front_is comment (2 + n)
 comment_or_rest None all = front_is unknown all
 
--- what a text with a byte begins with, given the length of the longest sign there, or 0: that sign, or one unknown byte
+-- what a text that has a byte, and begins with no name, number, blanks or `(*`, begins with, given the length of the longest sign there, or 0: that sign, or
+-- one unknown byte
 abbrev pub sign_or_byte : ℕ → Front
 sign_or_byte zero = front_is unknown 1
 sign_or_byte (suc n) = front_is sign (suc n)
 
--- what a text of this first byte and these others begins with: a name, a number or blanks by its first byte, else from `(*` on a comment or an unknown, else
--- the longest sign, else one unknown byte
+-- what a text of this first byte and these others begins with: a name, a number or blanks by its first byte, as far as such bytes go (those of a name may be
+-- digits too), else from `(*` on a comment or an unknown, else the longest sign, else one unknown byte
 abbrev pub front_of : ℕ → Bytes → Front
 front_of b bs =
     let text = b ∷ bs in

@@ -8,7 +8,8 @@ use Rattle.input.specs.Held.{held_tokens, held_end}
 abbrev pub opened : Supply → Stream
 opened s = record { previous = None; ahead = s.tokens; end = s.end }
 
--- the stream over a source, given what each source has still to give: previous is what was consumed last; ahead is nothing if the current token is an end, or
--- else it, and, unless the second is an end, the second and what the source has still to give; the end is the first of the two that is an end, or the source's
+-- the stream over a source, given what each source has still to give: previous is the token that the stream keeps as previous, or none; ahead is nothing if
+-- the current token is an end, or else that token, and, unless the second is an end, the second and the tokens that the source has still to give; the end is
+-- the first of the two that is an end, or else the source's
 abbrev pub stream : {S : Type 0} → (S → Supply) → Lookahead S → Stream
 stream supply s = record { previous = s.previous; ahead = held_tokens s.current s.second (supply s.source); end = held_end s.current s.second (supply s.source) }

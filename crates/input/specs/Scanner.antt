@@ -13,7 +13,8 @@ still_to_scan c =
     let tokens = scanned_from c.index c.offset c.rest.now in
     record { tokens = tokens; end = end_at (c.index + length tokens) (c.offset + length c.rest.now) }
 
--- the stream that a scanner is: previous is what was consumed last; ahead is nothing if the current token is an end, or else it, and, unless the second is an
--- end, the second and those still to be scanned; the end is the first of the two that is an end, or else that of what is still to be scanned
+-- the stream that a scanner is: previous is the token that it keeps as previous, or none; ahead is nothing if the current token is an end, or else it, and,
+-- unless the second is an end, the second and the tokens still to be scanned; the end is the first of the two that is an end, or else that of what is still to
+-- be scanned
 abbrev pub scanner_stream : Scanner → Stream
 scanner_stream s = stream still_to_scan s.tokens

@@ -42,7 +42,7 @@ type_small blank part = refl
 type_small comment part = refl
 type_small unknown part = refl
 
--- all tokens that the rules give for a text are tokens of the input
+-- all tokens that the rules give for a text are tokens of the input, whatever the first index and offset, and however many are allowed
 inputs : (more index offset : ℕ) (text : Bytes) → Inputs (scanned_within more index offset text)
 inputs zero index offset text = tt
 inputs (suc more) index offset [] = tt
@@ -50,7 +50,7 @@ inputs (suc more) index offset (b ∷ bs) =
     let front = front_of b bs in
     (and_from _ _ (type_small front.kind (take front.len (b ∷ bs))) refl, inputs more (suc index) (offset + front.len) (drop front.len (b ∷ bs)))
 
--- what a scanner has still to give is tokens of the input, and then an end of one
+-- what a cursor has still to give is tokens of the input, and then the end of one
 pub still_formed : (c : Cursor) → SupplyFormed (still_to_scan c)
 still_formed c = record { inputs = inputs (length c.rest.now) c.index c.offset c.rest.now; ends = refl }
 

@@ -28,7 +28,8 @@ current_token s = first_of s.ahead s.end
 abbrev pub second_token : Stream → Token
 second_token s = first_of (rest_of s.ahead) s.end
 
--- given the tokens ahead of a stream as a list: the stream after the first of them became the previous one; the same stream where the list is empty
+-- given tokens in the place of those ahead in the stream, which are not looked at: the first becomes the previous one, the others are ahead, and the end
+-- stays; the same stream where none are given
 abbrev pub moved_past : List Token → Stream → Stream
 moved_past [] s = s
 moved_past (t ∷ ts) s = record { previous = Some t; ahead = ts; end = s.end }
@@ -43,7 +44,7 @@ moved s = moved_past s.ahead s
 abbrev pub Inputs : List Token → Type 0
 Inputs ts = AllByRecursion (λ t. is_input t ≡ true) ts
 
--- there is no previous token, or it has a place in the input
+-- whether there is no token, or one with the type and the index of a token of the input or of its end: type −1 to 65,535, index 0 or more
 abbrev pub has_place_if_any : Option Token → Bool
 has_place_if_any None = true
 has_place_if_any (Some t) = has_place t

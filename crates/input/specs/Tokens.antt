@@ -26,6 +26,6 @@ is_input t = is_type t.ttype && non_neg t.index
 abbrev pub is_input_end : Token → Bool
 is_input_end t = is_end t && non_neg t.index
 
--- whether a token is of the input, or is the end of one
+-- whether a token has the type and the index of a token of the input or of its end: type −1 to 65,535, index 0 or more
 abbrev pub has_place : Token → Bool
 has_place t = is_input t || is_input_end t

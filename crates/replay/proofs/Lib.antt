@@ -1,3 +1,4 @@
+pub mod Splits
 pub mod Reading
 pub mod Prints
 pub mod Listings

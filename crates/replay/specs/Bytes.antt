@@ -6,7 +6,7 @@ use Rattle.replay.specs.declared.fault.Fault.{Fault}
 use Rattle.replay.specs.declared.fault.Fault.TheVariants.{UnknownEscape}
 pub use Rattle.input.specs.Bytes.{Bytes}
 
--- the bytes up to the first mark; all of them if there is none
+-- the bytes before the first mark; all of them if there is none
 abbrev pub up_to : ℕ → Bytes → Bytes
 up_to mark bytes = before_first (λ b. b == mark) bytes
 
@@ -38,9 +38,9 @@ unescaped [] = Some []
 unescaped (b ∷ []) = if b == 92 then None else Some (b ∷ [])
 unescaped (b ∷ (e ∷ bs)) = if b == 92 then in_front (meant_by e) (unescaped bs) else in_front (Some b) (unescaped (e ∷ bs))
 
--- what reading the first byte of a text with escapes may answer: `None` only if it is empty; an unknown escape only if the text stands for nothing, since a \
--- here or further on begins no escape; else a byte and a shorter rest, and the text stands for the byte and then what the rest does, or for nothing where the
--- rest does not
+-- what reading the first byte of a text with escapes may answer: `None` only if the text is empty; an unknown escape only if there is one in it, here or
+-- further on; else a byte and a shorter rest, where the text stands for this byte and then what the rest stands for, or both have an unknown escape in them,
+-- and then the byte may be any
 abbrev pub ReadsFirst : Bytes → Result (Option (ℕ × Bor Bytes)) Fault → Type 0
 ReadsFirst text (Ok None) = text ≡ []
 ReadsFirst text (Ok (Some (b, rest))) = (unescaped text ≡ in_front (Some b) (unescaped rest.now)) × (length rest.now < length text)

@@ -33,7 +33,8 @@ pub data Saying : Type 0 where
   not_yet : Keyword → Saying
   wrong : Fault → Saying
 
--- what a line says, by the keyword that its first word is and by what stands behind the space (32) after it, if there is one; a text without a space is empty
+-- what a line says, by the keyword that its first word is and by what stands behind the space (32) after it: with `text` that, escapes unread, and empty
+-- without a space; with `rules` that, or `None` without a space; with another keyword, that it is not read yet; with no keyword, that the word is unknown
 abbrev pub by_keyword : Option Keyword → Option Bytes → Saying
 by_keyword None rest = wrong UnknownWord
 by_keyword (Some k) rest =

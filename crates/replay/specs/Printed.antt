@@ -21,7 +21,7 @@ numbers_of t =
     signed_decimal t.index ++ (codes " " ++ (signed_decimal t.ttype ++ (codes " " ++ (decimal t.channel ++ (codes " " ++ (decimal t.offset ++ (codes " " ++ (decimal t.len
     ++ codes " '"))))))))
 
--- a token's line: its numbers, then these bytes with escapes between quotes, and an LF
+-- a token's line: its numbers, then these bytes between quotes, with a tab, an LF and a CR as \t, \n and \r and all others as they are, and an LF
 abbrev pub token_line : Token → Bytes → Bytes
 token_line t part = numbers_of t ++ (escaped part ++ line_of (codes "'"))
 
@@ -57,7 +57,8 @@ pub record Few (n : Tally) : Type 0 where
   pub hidden : n.hidden ≤ 65536
   pub unknown : n.unknown ≤ 65536
 
--- `N tokens, V on channel 0, H on channel 1, U unknown` without an LF, each number in decimal: V, H and U are the tally's, and N is V + H
+-- `N tokens, V on channel 0, H on channel 1, U unknown` without an LF, each number in decimal: V, H and U are the tally's, and N is V + H; a scanner's hidden
+-- tokens are all on channel 1
 abbrev pub tally_line : Tally → Bytes
 tally_line t =
     decimal (t.visible + t.hidden) ++ (codes " tokens, " ++ (decimal t.visible ++ (codes " on channel 0, " ++ (decimal t.hidden ++ (codes " on channel 1, "
@@ -65,7 +66,7 @@ tally_line t =
 
 -- ── a text: its tokens, the end, which has no bytes, and how many tokens there are ──
 
--- the end of a text: its index is the number of the tokens, its offset the length of the text
+-- the end of a text: type −1, channel 0, length 0; its index is the number of the tokens, its offset the length of the text
 abbrev pub end_of : Bytes → Token
 end_of text = end_at (length (scanned text)) (length text)
 
@@ -77,6 +78,7 @@ listing text = token_lines text (scanned text) ++ token_line (end_of text) []
 abbrev pub tokens_printed : Bytes → Bytes
 tokens_printed text = line_of (codes "tokens") ++ (listing text ++ line_of (tally_line (tally_of (scanned text))))
 
--- what is printed for some bytes: their tokens, or a refusal where they are more than the 65,536 that a text may have
+-- what is printed for some bytes: the line `tokens`, a line for each token and for the end, and the line of the tally; or, where they are more than the 65,536
+-- that a text may have, the line `text -> refused 3 (out of range)`
 abbrev pub text_printed : Bytes → Bytes
 text_printed text = if nat_le (length text) 65536 then tokens_printed text else line_of (codes "text -> refused 3 (out of range)")

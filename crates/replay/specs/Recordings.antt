@@ -14,8 +14,8 @@ use Rattle.replay.specs.Lines.{Saying, nothing, some_text, some_rules, not_yet, 
 
 -- ── lines and words ──
 
--- the lines of an input: each ends before an LF (10), the last one there or where the input ends; behind a last LF no further one begins, and an empty input has
--- none
+-- the lines of an input: each ends before an LF (10), the last one there or where the input ends; behind an LF that is the last byte none begins, and an empty
+-- input has none
 abbrev pub lines : Bytes → List Bytes
 lines [] = []
 lines (b ∷ bs) = if b == 10 then [] ∷ lines bs else onto_first b (lines bs)
@@ -35,7 +35,8 @@ abbrev pub words_if_any : Option Bytes → List Bytes
 words_if_any None = []
 words_if_any (Some bytes) = words bytes
 
--- the words of some bytes as names, refused if any is empty, as where there are no bytes, two spaces together or a space at an end; no names of `None`
+-- the words of some bytes as names, refused if any is empty, as where there are no bytes, two spaces together or a space at an end; of `None`, which is not
+-- refused, no names
 abbrev pub names : Option Bytes → Result (List Bytes) Fault
 names bytes = if none_empty (words_if_any bytes) then Ok (words_if_any bytes) else Err EmptyName
 
@@ -46,22 +47,24 @@ pub record Said : Type 0 where
   pub text : Option Bytes
   pub rules : List Bytes
 
--- the text with one more text line: a further one goes on after an LF (10)
+-- the text with one more text line: the first is the text, and a further one goes on after an LF (10)
 abbrev pub continued : Option Bytes → Bytes → Bytes
 continued None line = line
 continued (Some text) line = text ++ (10 ∷ line)
 
--- what is said after one more text line, whose escapes were read, unless one of them is unknown
+-- what is said after one more text line, given its bytes with the escapes read: the text begins with them, or goes on with them, and the names stay; the fault
+-- where there was one
 abbrev pub with_text : Said → Result Bytes Fault → Result Said Fault
 with_text s (Ok line) = Ok (record { text = Some (continued s.text line); rules = s.rules })
 with_text s (Err fault) = Err fault
 
--- what is said after one more rules line: its names replace earlier ones
+-- what is said after one more rules line, given its names: they replace earlier ones, and the text stays; the fault where there was one
 abbrev pub with_rules : Said → Result (List Bytes) Fault → Result Said Fault
 with_rules s (Ok names) = Ok (record { text = s.text; rules = names })
 with_rules s (Err fault) = Err fault
 
--- what is said after one more line, or what is wrong with it
+-- what is said after one more line, given what that line says, or its fault: the same where it says nothing; a keyword that is not read yet is a fault, and so
+-- are an unknown escape in a text and an empty name
 abbrev pub with_line : Said → Saying → Result Said Fault
 with_line s nothing = Ok s
 with_line s (some_text bytes) = with_text s (ok_or (unescaped bytes) UnknownEscape)
@@ -69,12 +72,13 @@ with_line s (some_rules bytes) = with_rules s (names bytes)
 with_line s (not_yet keyword) = Err (NotYet keyword)
 with_line s (wrong fault) = Err fault
 
--- goes on to the other lines, or stops with the number of this one where it is wrong
+-- goes on to the other lines, or stops with the number of this one and its fault where it is wrong
 abbrev pub go_on : ℕ → Result Said Fault → (Said → Result Said BadLine) → Result Said BadLine
 go_on number (Ok s) others = others s
 go_on number (Err fault) others = Err (record { number = number; fault = fault })
 
--- what is said after some lines, of which the first has this number, or the first that is wrong
+-- what is said after these lines, with what was said before them; or the number and the fault of the first wrong line among them, where the first line has
+-- this number and each further line the next
 abbrev pub with_lines : ℕ → Said → List Bytes → Result Said BadLine
 with_lines number s [] = Ok s
 with_lines number s (line ∷ more) = go_on number (with_line s (says line)) (λ t. with_lines (number + 1) t more)
@@ -97,13 +101,12 @@ bytes_in = map (λ r. r.now)
 abbrev pub IsReadAs : Said → Recording → Type 0
 IsReadAs s r = (vec_items r.text ≡ unwrap_or s.text []) × (bytes_in (vec_items r.rules) ≡ s.rules)
 
--- the number is that of a line of the input, counted from 1, or of the empty piece that stands behind a last LF (10) and in an empty input, and no line before
--- it is wrong
+-- the number is that of a line of the input, counted from 1, and no line before it is wrong
 abbrev pub Reached : Bytes → ℕ → Type 0
-Reached input number = (0 < number) × (number ≤ length (slice_split (λ b. b == 10) input)) × IfErr (recorded input) (λ bad. number ≤ bad.number)
+Reached input number = (0 < number) × (number ≤ length (lines input)) × IfErr (recorded input) (λ bad. number ≤ bad.number)
 
--- whether `Recording::read` may answer this: a recording only if it is what the input says, a wrong line only if it is the first, and want of memory at any line
--- that was reached
+-- whether `Recording::read` may answer this: a recording only if no line is wrong and it is what the input says, a wrong line only if it is the first of the
+-- wrong ones, and want of memory only at a line of the input before which none is wrong
 abbrev pub Recorded : Bytes → Result Recording ReadError → Type 0
 Recorded input (Ok r) = IsOkAnd (recorded input) (λ s. IsReadAs s r)
 Recorded input (Err (read.BadLine bad)) = recorded input ≡ Err bad

@@ -1,36 +1,35 @@
-use Rattle.std.proofs.Common.{◌≡◌, ℕ, ◌+◌, ◌==◌, take, drop, Some, None, rules, tests, sym, ap, ◌∙◌, arith}
-use Rattle.std.proofs.lemmas.Iterator.{YieldsList-from_slice}
-use Rattle.std.proofs.lemmas.Iterator.Search.{position_from_yields_List}
-use Rattle.std.proofs.lemmas.List.{take_all, take_rest}
-use Rattle.std.proofs.lemmas.Option.{cond_some}
-use Rattle.std.specs.List.{position, position_or_len}
-use Rattle.std.specs.Option.{option_map}
-use Rattle.replay.specs.Bytes.{Bytes, up_to}
+use Rattle.std.proofs.Common.{◌+◌, length, Some, sym, ap, ◌∙◌, arith}
+use Rattle.std.proofs.lemmas.List.{take_rest, length-drop}
+use Rattle.std.proofs.lemmas.Bool.{eq-eqb, ne_eqb}
+use Rattle.replay.specs.Bytes.{Bytes}
+use Rattle.replay.proofs.Splits.{behind_there, up_to_stops, up_to_more, up_to_all, behind_all}
 use Rattle.replay.proofs.bytes.split_once.Goals as goal
-use Rattle.replay.proofs.bytes.split_once.Goals.{After-position}
 
--- where the first mark stands
-found : (c : After-position) → position (λ b. b == c.args.mark) c.args.bytes.now ≡ c.position.result
-found c =
-    sym (position_from_yields_List (λ b. b == c.args.mark) _ _ c.position.result c.position.ensures.ran (YieldsList-from_slice c.args.bytes.now cc)
-    (λ x b q k. search (rules, tests)))
-
-pub returns-in-Some-clause-front : goal.returns-in-Some-clause-front
-returns-in-Some-clause-front c =
-    ap (λ (n : ℕ). take n c.args.bytes.now) (sym (cond_some _ _ _ (found (goal.at.returns-in-Some-clause-front c).After-position ∙ c.in-Some.is)).1)
-
-pub returns-in-Some-clause-rest : goal.returns-in-Some-clause-rest
-returns-in-Some-clause-rest c =
+pub returns-then-b-mark : goal.returns-then-b-mark
+returns-then-b-mark c =
     let bytes = c.args.bytes.now in
-    ap (λ (bs : Bytes). Some bs) (take_rest bytes (c.in-Some.at + 1))
-    ∙ sym (ap (option_map (λ n. drop (n + 1) bytes)) (found (goal.at.returns-in-Some-clause-rest c).After-position ∙ c.in-Some.is))
+    let i = c.loop-i.i in
+    let is = eq-eqb _ _ c.if-b-mark.true in
+    let within = c.loop-i-test.true in
+    let rest = take_rest bytes (i + 1) in
+    record {
+      front = sym (c.loop-i.invariant.0 ∙ up_to_stops c.args.mark bytes i within is);
+      rest = ap (λ (bs : Bytes). Some bs) rest ∙ sym (c.loop-i.invariant.1 ∙ behind_there c.args.mark bytes i within _ is);
+      shorter = omega (arith, ap length rest, length-drop (i + 1) bytes);
+    }
 
-all_before : (mark : ℕ) (bytes : Bytes) → position (λ b. b == mark) bytes ≡ None → bytes ≡ up_to mark bytes
-all_before mark bytes nowhere = sym (take_all (position_or_len (λ b. b == mark) bytes) bytes (grind arith))
+pub loop-i-preserved : goal.loop-i-preserved
+loop-i-preserved c =
+    let bytes = c.args.bytes.now in
+    let is = ne_eqb _ _ c.if-b-mark.false in (
+      c.loop-i.invariant.0 ∙ up_to_more c.args.mark bytes c.loop-i.i c.loop-i-test.true is,
+      c.loop-i.invariant.1 ∙ behind_there c.args.mark bytes c.loop-i.i c.loop-i-test.true _ is,
+    )
 
-pub returns-in-None-clause-front : goal.returns-in-None-clause-front
-returns-in-None-clause-front c = all_before c.args.mark c.args.bytes.now (found (goal.at.returns-in-None-clause-front c).After-position ∙ c.in-None.is)
-
-pub returns-in-None-clause-rest : goal.returns-in-None-clause-rest
-returns-in-None-clause-rest c =
-    sym (ap (option_map (λ n. drop (n + 1) c.args.bytes.now)) (found (goal.at.returns-in-None-clause-rest c).After-position ∙ c.in-None.is))
+pub returns : goal.returns
+returns c =
+    record {
+      front = sym (c.loop-i.invariant.0 ∙ up_to_all c.args.mark c.args.bytes.now c.loop-i.i c.loop-i-test.false);
+      rest = sym (c.loop-i.invariant.1 ∙ behind_all c.args.mark c.args.bytes.now c.loop-i.i c.loop-i-test.false);
+      shorter = tt;
+    }

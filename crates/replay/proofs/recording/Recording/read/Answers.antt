@@ -1,62 +1,55 @@
-use Rattle.std.proofs.Common.{◌≡◌, ℕ, ◌+◌, ◌<◌, ◌≤◌, ◌==◌, IfErr, Result, subst, arith, length, get_or, drop, Err, rules, tests, of_calls, sym, ap, ◌∙◌}
-use Rattle.std.proofs.iter.Serving.{serving}
-use Rattle.std.proofs.lemmas.Iterator.Consumers.{YieldsList-turn, YieldsList-end, YieldsList-from_enumerate}
-use Rattle.std.proofs.lemmas.Iterator.Splits.{YieldsList-from_slice_split}
-use Rattle.std.proofs.lemmas.List.{length_push}
+use Rattle.std.proofs.Common.{◌≡◌, ◌+◌, ◌<◌, ◌≤◌, IfErr, Result, subst, arith, [], length, Option, unwrap_or, Err, rules, tests, sym, refl, ap, ◌∙◌}
+use Rattle.std.proofs.lemmas.Bool.{eqb-true, eqb-false}
 use Rattle.std.proofs.lemmas.Result.{err_from_is_err_and}
 use Rattle.replay.specs.declared.fault.BadLine.{BadLine}
 use Rattle.replay.specs.declared.fault.ReadError.{ReadError}
+use Rattle.replay.specs.Bytes.{Bytes, behind}
+use Rattle.replay.specs.Faults.{at_line}
 use Rattle.replay.specs.Lines.{says}
-use Rattle.replay.specs.Recordings.{Said, with_line, with_lines, recorded}
-use Rattle.replay.proofs.Reading.{pieces, from_pieces, piece_there, wrong_later, line_read, line_wrong, all_read, line_refused, kept, turned}
+use Rattle.replay.specs.Recordings.{Said, lines, with_line, recorded}
+use Rattle.replay.proofs.Reading.{rest_is, rest_shorter, one_line_more, line_more, wrong_line, wrong_later, all_read, line_refused, kept, turned}
 use Rattle.replay.proofs.recording.Recording.read.Goals as goal
-use Rattle.replay.proofs.recording.Recording.read.Goals.{In-Some}
 
--- this iteration's line is the next piece
-there : (c : In-Some)
-    → (length c.loop-i.yielded < length (pieces c.args.input.now)) × (c.in-Some.i ≡ length c.loop-i.yielded)
-    × (c.in-Some.line.now ≡ get_or (pieces c.args.input.now) (length c.loop-i.yielded) c.in-Some.line.now)
-there c =
-    piece_there (pieces c.args.input.now) (length c.loop-i.yielded) c.in-Some.i c.in-Some.line.now
-    (YieldsList-turn (YieldsList-from_enumerate (YieldsList-from_slice_split _ (λ b. b == 10) c.args.input.now (cc) (cc) (cc) (λ x b q k. search (rules, tests))) (cc))
-    c.loop-i.yielded _ c.loop-i.yielded_by _ _ (c.in-Some.i, c.in-Some.line) c.in-Some.is c.next.ensures.steps)
-
-pub loop-i-init : goal.loop-i-init
-loop-i-init c =
-    (search of_calls, grind serving, from_pieces c.args.input.now ∙ ap (λ s. with_lines 1 s (pieces c.args.input.now)) (sym c.new-head.ensures))
-
-pub returns-in_err-head : goal.returns-in_err-head
-returns-in_err-head c =
-    let n = length c.loop-i.yielded in
-    let line = c.in-Some.line.now in
-    let before = c.loop-i.head in
-    let t = there (goal.at.returns-in_err-head c).In-Some in
-    let r = turned c.with_line.result _ _ c.in_err-head.ensures.cases in
+pub returns-in_err-map_err : goal.returns-in_err-map_err
+returns-in_err-map_err c =
+    let n = c.loop-rest.number + 1 in
+    let rest = c.loop-rest.rest.now in
+    let line = c.split_once.result.0.now in
+    let before = c.loop-rest.head in
+    let input = c.args.input.now in
+    let full = eqb-false _ _ (sym c.loop-rest-test.ensures) in
+    let some : 0 < length rest = omega arith in
+    let r = turned c.add_line.result _ _ c.in_err-map_err.ensures.cases in
+    let at : c.in_err-map_err.field-0.0 ≡ at_line n r.0 = let e = r.2 in search (rules, tests) in
     let p = err_from_is_err_and c.from_residual.result c.from_residual.ensures.1 in
-    let ps = pieces c.args.input.now in
-    let later : IfErr (recorded c.args.input.now) (λ bad. n + 1 ≤ bad.number) =
-    subst (λ (m : Result Said BadLine). IfErr m (λ bad. n + 1 ≤ bad.number)) (sym c.loop-i.invariant.2) (wrong_later (n + 1) before (drop n ps)) in
-    line_refused c.args.input.now (with_line before (says line)) n c.in-Some.i c.with_line.result r.0 c.in_err-head.field-0.0 c.from_residual.result
-    c.with_line.ensures r.1 (let e = r.2 in search (rules, tests)) t.1 (p.1 ∙ ap (λ (e : ReadError). Err e) p.2) (omega arith, omega (arith, t.0), later)
-    (λ fault is. c.loop-i.invariant.2 ∙ line_wrong (n + 1) before (pieces c.args.input.now) n line t.0 t.2 fault is)
+    let within : n ≤ length (lines input) = omega (arith, c.loop-rest.invariant.1, one_line_more n before rest line _ some c.split_once.ensures.front refl) in
+    let later : IfErr (recorded input) (λ bad. n ≤ bad.number) =
+    subst (λ (m : Result Said BadLine). IfErr m (λ bad. n ≤ bad.number)) (sym c.loop-rest.invariant.2) (wrong_later n before (lines rest)) in
+    line_refused (λ _. c.add_line.new.self) input (with_line before (says line)) n c.add_line.result r.0 c.from_residual.result c.add_line.ensures r.1
+    (p.1 ∙ ap (λ (e : ReadError). Err e) (p.2 ∙ at)) (omega arith, within, later)
+    (λ fault is. c.loop-rest.invariant.2 ∙ wrong_line n before rest line _ some c.split_once.ensures.front refl fault is)
 
-pub loop-i-preserved : goal.loop-i-preserved
-loop-i-preserved c =
-    let ps = pieces c.args.input.now in
-    let n = length c.loop-i.yielded in
-    let after = c.in_ok-head.head in
-    let t = there (goal.at.loop-i-preserved c).In-Some in
-    let r = kept _ c.with_line.result c.in_ok-head.head c.in_ok-head.ensures.cases in
-    let read = line_read (n + 1) (c.loop-i.head) ps n c.in-Some.line.now t.0 t.2 after (rw r at c.with_line.ensures) in (
-      search of_calls,
-      grind serving,
-      c.loop-i.invariant.2 ∙ read ∙ ap (λ (k : ℕ). with_lines (k + 1) after (drop k ps)) (sym (length_push c.loop-i.yielded (c.in-Some.i, c.in-Some.line))),
+pub loop-rest-preserved : goal.loop-rest-preserved
+loop-rest-preserved c =
+    let n = c.loop-rest.number + 1 in
+    let rest = c.loop-rest.rest.now in
+    let line = c.split_once.result.0.now in
+    let after = c.unwrap_or-rest.result.now in
+    let before = c.loop-rest.head in
+    let full = eqb-false _ _ (sym c.loop-rest-test.ensures) in
+    let some : 0 < length rest = omega arith in
+    let front = c.split_once.ensures.front in
+    let shorter : length after < length rest =
+    rest_shorter c.split_once.result.1 _ c.unwrap_or-rest.result (length rest) c.unwrap_or-rest.ensures refl some c.split_once.ensures.shorter in
+    let then : after ≡ unwrap_or (behind 10 rest) [] =
+    rest_is c.split_once.result.1 _ c.unwrap_or-rest.result c.unwrap_or-rest.ensures refl ∙ ap (λ (o : Option Bytes). unwrap_or o []) c.split_once.ensures.rest in
+    let r = kept _ c.add_line.result c.in_ok-map_err.field-0 c.in_ok-map_err.ensures.cases in (
+      omega (arith, c.loop-rest.invariant.0),
+      omega (arith, c.loop-rest.invariant.1, one_line_more n before rest line after some front then),
+      c.loop-rest.invariant.2 ∙ line_more n before rest line after some front then c.add_line.new.self (rw r at c.add_line.ensures),
     )
 
 pub returns : goal.returns
 returns c =
-    let n = length c.loop-i.yielded in
-    let all =
-    YieldsList-end (YieldsList-from_enumerate (YieldsList-from_slice_split _ (λ b. b == 10) c.args.input.now (cc) (cc) (cc) (λ x b q k. search (rules, tests))) (cc))
-    c.loop-i.yielded _ c.loop-i.yielded_by _ _ c.in-None.is c.next.ensures.steps in
-    all_read (recorded c.args.input.now) (n + 1) n (c.loop-i.head) (pieces c.args.input.now) c.recording.result c.loop-i.invariant.2 all.1 c.recording.ensures
+    all_read (recorded c.args.input.now) (c.loop-rest.number + 1) c.loop-rest.head c.loop-rest.rest.now c.recording.result c.loop-rest.invariant.2
+    (eqb-true _ _ (sym c.loop-rest-test.ensures)) c.recording.ensures

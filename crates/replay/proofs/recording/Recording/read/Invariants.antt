@@ -1,11 +1,13 @@
-use Rattle.std.proofs.Common.{◌≡◌, ◌+◌, length, drop}
-use Rattle.replay.specs.Recordings.{recorded, with_lines}
-use Rattle.replay.proofs.Reading.{pieces}
+use Rattle.std.proofs.Common.{◌≡◌, ◌+◌, ◌≤◌, length}
+use Rattle.replay.specs.Recordings.{lines, recorded, with_lines}
 use Rattle.replay.proofs.recording.Recording.read.Given as goal
 
--- the pieces that are left, read after those so far, give what the input says
-abbrev pub invariant-loop-i : goal.invariant-loop-i
-invariant-loop-i l =
-    (goal.iterator-loop-i).can_next l.i-iterator
-    × (goal.iterator-loop-i).is_finite l.i-iterator
-    × (recorded l.input ≡ with_lines (length l.yielded + 1) l.head (drop (length l.yielded) (pieces l.input)))
+-- the lines that are left, read after those so far, give what the input says
+abbrev pub invariant-loop-rest : goal.invariant-loop-rest
+invariant-loop-rest l =
+    (l.number + length l.rest ≤ length l.initial.rest)
+    × (l.number + length (lines l.rest) ≤ length (lines l.initial.rest))
+    × (recorded l.initial.rest ≡ with_lines (l.number + 1) l.head (lines l.rest))
+
+abbrev pub decreases-loop-rest : goal.decreases-loop-rest
+decreases-loop-rest l = length l.rest
