@@ -2,7 +2,8 @@ use Rattle.std.proofs.Common.{◌≡◌, ◌+◌, ◌≤◌, length}
 use Rattle.replay.specs.Recordings.{lines, recorded, with_lines}
 use Rattle.replay.proofs.recording.Recording.read.Given as goal
 
--- the lines that are left, read after those so far, give what the input says
+-- the number fits, since each line had a byte or an LF; those so far and those that are left are no more than all lines; and those that are left, read after
+-- those so far, give what the input says
 abbrev pub invariant-loop-rest : goal.invariant-loop-rest
 invariant-loop-rest l =
     (l.number + length l.rest ≤ length l.initial.rest)
