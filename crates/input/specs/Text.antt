@@ -1,5 +1,8 @@
 -- A text of a program, and when a slice is refused as one.
 use Rattle.std.specs.Prelude.{◌≡◌, ℕ, ◌<◌, ◌≤◌, length, take, codes, Ok, Err, Result}
+use Rattle.std.proofs.Common.{sym, subst}
+use Rattle.std.proofs.Math.Nat.{min-le_left}
+use Rattle.std.proofs.lemmas.List.{length-take}
 use Rattle.input.specs.declared.text.Text.{Text}
 use Rattle.input.specs.declared.text.TextTooLong.{TextTooLong}
 use Rattle.input.specs.Bytes.{Bytes}
@@ -7,6 +10,10 @@ use Rattle.input.specs.Bytes.{Bytes}
 -- the bytes of a `Text`: the first 65,536 of its slice, or all where there are fewer
 abbrev pub bytes_of : Text → Bytes
 bytes_of t = take 65536 t.bytes.now
+
+-- every text has at most 65,536 bytes
+pub short : (t : Text) → length (bytes_of t) ≤ 65536
+short t = subst (λ (n : ℕ). n ≤ 65536) (sym (length-take 65536 t.bytes.now)) (min-le_left 65536 (length t.bytes.now))
 
 -- the number of the refusal: always 3, which stands for out of range
 abbrev pub refusal_number : TextTooLong → ℕ

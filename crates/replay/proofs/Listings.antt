@@ -1,12 +1,11 @@
 -- The tokens of a text, listed and counted one by one.
 use Rattle.std.proofs.Common.{◌≡◌, ℕ, zero, suc, ◌+◌, ◌≤◌, List, [], ◌∷◌, ◌++◌, length, drop, count_by, ap, arith}
-use Rattle.std.proofs.lemmas.List.{length-take}
 use Rattle.std.proofs.lemmas.List.Sums.{count_by-le-length}
 use Rattle.input.specs.declared.token.Token.{Token}
 use Rattle.input.specs.declared.text.Text.{Text}
 use Rattle.input.specs.Lexemes.{front_of}
 use Rattle.input.specs.Scanned.{scanned_within, scanned}
-use Rattle.input.specs.Text.{bytes_of}
+use Rattle.input.specs.Text.{bytes_of, short}
 use Rattle.replay.specs.declared.report.Tally.{Tally}
 use Rattle.replay.specs.Bytes.{Bytes}
 use Rattle.replay.specs.Printed.{token_lines, is_visible, is_hidden, is_unknown, Few}
@@ -26,7 +25,7 @@ few_within (suc m) index offset [] = omega arith
 few_within (suc m) index offset (b ∷ bs) = omega (arith, few_within m (suc index) (offset + (front_of b bs).len) (drop (front_of b bs).len (b ∷ bs)))
 
 pub few_tokens : (t : Text) → length (scanned (bytes_of t)) ≤ 65536
-few_tokens t = omega (arith, few_within (length (bytes_of t)) 0 0 (bytes_of t), length-take 65536 t.bytes.now)
+few_tokens t = omega (arith, few_within (length (bytes_of t)) 0 0 (bytes_of t), short t)
 
 pub few_if_short : (text before out : Bytes) (all ahead : List Token) (tally : Tally) → Listing text before out all ahead tally → length all ≤ 65536 → Few tally
 few_if_short text before out all ahead tally l short = record {
