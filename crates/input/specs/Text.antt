@@ -11,7 +11,7 @@ use Rattle.input.specs.Bytes.{Bytes}
 abbrev pub bytes_of : Text → Bytes
 bytes_of t = take 65536 t.bytes.now
 
--- every text has at most 65,536 bytes
+-- `bytes_of` gives at most 65,536 bytes of any `Text`; how long the slice in it is, this does not say
 pub short : (t : Text) → length (bytes_of t) ≤ 65536
 short t = subst (λ (n : ℕ). n ≤ 65536) (sym (length-take 65536 t.bytes.now)) (min-le_left 65536 (length t.bytes.now))
 
